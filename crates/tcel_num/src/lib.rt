@@ -1,0 +1,14 @@
+//! Arithmetic, names, places and operators: what every other crate speaks of.
+#![tactic(auto)]
+
+mod at;
+mod memory;
+mod name;
+mod op;
+mod port_row;
+
+pub use at::At;
+pub use memory::NoMemory;
+pub use name::Name;
+pub use op::Op;
+pub use port_row::PortRow;
