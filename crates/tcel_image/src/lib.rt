@@ -1,0 +1,8 @@
+//! Images: the machine's tasks and their code, how their bytes spell them, and what a machine does with them.
+#![tactic(auto)]
+
+mod costs;
+mod image;
+
+pub use costs::{CostKey, Costs};
+pub use image::{Image, ImageState, ImageTask, Instr, Line, StateKind};
