@@ -1,12 +1,14 @@
 //! Arithmetic, names, places and operators: what every other crate speaks of.
 #![tactic(auto)]
 
+mod arithmetic;
 mod at;
 mod memory;
 mod name;
 mod op;
 mod port_row;
 
+pub use arithmetic::{add, div, mul, neg, rem, sub};
 pub use at::At;
 pub use memory::NoMemory;
 pub use name::Name;
