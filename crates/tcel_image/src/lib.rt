@@ -2,7 +2,11 @@
 #![tactic(auto)]
 
 mod costs;
+mod fault;
 mod image;
+mod writing;
 
 pub use costs::{CostKey, Costs};
+pub use fault::ImageFail;
 pub use image::{Image, ImageState, ImageTask, Instr, Line, StateKind};
+pub use writing::encode;
