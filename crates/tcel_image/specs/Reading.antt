@@ -1,26 +1,8 @@
 -- Which image bytes spell, and else their first fault: from front to back, field by field.
-use Rattle.std.specs.Prelude.{◌≡◌, ℕ, zero, suc, ◌-◌, ◌+◌, ◌*◌, ◌^◌, ℤ, Bool, true, false, List, [], ◌∷◌, ◌++◌, length, take, drop, take_while, Result, Ok, Err, nat_lt, nat_le, ◌==◌, ◌&&◌, min, if◌then◌else◌, nat_eq}
-use Rattle.std.specs.List.{starts_with}
-use Rattle.std.specs.Int.{Width, w16, w32, w64, byte_len, from_le_bytes, cast_signed, is_in_range}
-use Rattle.tcel_num.specs.Name.{may_start, may_follow, is_reserved}
-use Rattle.tcel_num.specs.declared.op.Op.{Op}
-use Rattle.tcel_num.specs.declared.op.Op.TheVariants as ops
-use Rattle.tcel_image.specs.declared.costs.Costs.{Costs}
+use Rattle.std.specs.Prelude.{ℕ, zero, suc, ℤ, List, [], ◌∷◌, length, take, drop, Result, Ok, Err, nat_lt, if◌then◌else◌}
+use Rattle.std.specs.Int.{Width, w32, w64, byte_len, from_le_bytes, cast_signed, is_in_range}
 use Rattle.tcel_image.specs.declared.fault.Fault.{Fault}
 use Rattle.tcel_image.specs.declared.fault.Fault.TheVariants as faults
-use Rattle.tcel_image.specs.declared.fault.ImageFail.{ImageFail}
-use Rattle.tcel_image.specs.declared.fault.ImageFail.TheVariants as fails
-use Rattle.tcel_image.specs.declared.fault.ReadError.{ReadError}
-use Rattle.tcel_image.specs.declared.fault.ReadError.TheVariants as errors
-use Rattle.tcel_image.specs.declared.image.Image.{Image}
-use Rattle.tcel_image.specs.declared.image.ImageTask.{ImageTask}
-use Rattle.tcel_image.specs.declared.image.ImageState.{ImageState}
-use Rattle.tcel_image.specs.declared.image.StateKind.{StateKind}
-use Rattle.tcel_image.specs.declared.image.StateKind.TheVariants as kinds
-use Rattle.tcel_image.specs.declared.image.Line.{Line}
-use Rattle.tcel_image.specs.declared.image.Instr.{Instr}
-use Rattle.tcel_image.specs.declared.image.Instr.TheVariants as instrs
-use Rattle.tcel_image.specs.Spelling.{magic, most_words, state_words}
 
 -- A reader takes a value from the front and leaves the bytes after it, or meets a fault. A fault is told
 -- by the number of bytes from its place to the end.
