@@ -1,0 +1,9 @@
+pub mod Cells
+pub mod Examples
+pub mod Frames
+pub mod Inputs
+pub mod Language
+pub mod Meaning
+pub mod Meets
+pub mod Plain
+pub mod Windows
