@@ -1,1 +1,4 @@
 mod InputsLemmas
+pub mod MeaningLaws
+pub mod PlainLaws
+mod TraceLemmas
