@@ -61,9 +61,9 @@ unfolding int_wrap
 keeps = record {
   follows = refl;
   in_time =
-    let soon : IsInTime (entry 8 first) (first_promise 0 0 10) = record { not_early = zero-le; not_late = lit≤ tt } in
-    let free : IsInTime (entry 9 (end (pos 1 ∷ []))) (end_promise 0 (pos 1 ∷ [])) = record { not_early = zero-le; not_late = tt } in
-    (record { not_early = zero-le; not_late = lit≤ tt }, (record { not_early = zero-le; not_late = lit≤ tt }, (soon, (free, tt))));
+      let soon : IsInTime (entry 8 first) (first_promise 0 0 10) = record { not_early = zero-le; not_late = lit≤ tt } in
+      let free : IsInTime (entry 9 (end (pos 1 ∷ []))) (end_promise 0 (pos 1 ∷ [])) = record { not_early = zero-le; not_late = tt } in
+      (record { not_early = zero-le; not_late = lit≤ tt }, (record { not_early = zero-le; not_late = lit≤ tt }, (soon, (free, tt))));
   complete = complete;
 }
 
