@@ -1,1 +1,5 @@
 mod InputsLemmas
+pub mod MeaningLaws
+pub mod MeetsLaws
+pub mod PlainLaws
+mod TraceLemmas

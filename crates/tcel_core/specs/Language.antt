@@ -39,6 +39,11 @@ mutual
     while_loop : Expr → ℕ → Block → Act
     copy : ℕ → ℕ → Act
 
+-- one block's statements and then the other's
+abbrev pub joined : Block → Block → Block
+joined done b = b
+joined (next s rest) b = next s (joined rest b)
+
 -- a task: names are bytes, the period and the deadline of its frames are ticks
 pub record Task : Type 0 where
   pub name : List ℕ

@@ -1,6 +1,6 @@
 -- When a trace meets the program that it is a trace of.
 use Rattle.std.specs.Prelude.{◌≡◌, ℕ, zero, suc, ◌+◌, ◌*◌, ◌≤◌, ◌<◌, ◌==◌, ℤ, List, [], ◌∷◌, ◌++◌, length, take, map, filter, All, Option, None, Some, IfSome, slice_get}
-use Rattle.std.specs.List.{zip}
+use Rattle.std.specs.List.{AllZip}
 use Rattle.std.specs.List.Sorted.{IsStrictlyIncreasing}
 use Rattle.tcel_num.specs.Entry.{Entry, What, receive, send, first, end}
 use Rattle.tcel_num.specs.Plan.{Plan}
@@ -71,16 +71,16 @@ abbrev pub promised : Promise → ℕ × What
 promised p = (p.frame, p.what)
 
 -- the entry comes neither too early nor too late
-pub record IsInTime (pair : Entry × Promise) : Type 0 where
-  pub not_early : pair.1.earliest ≤ pair.0.time
-  pub not_late : IfSome pair.1.latest (λ latest. pair.0.time ≤ latest)
+pub record IsInTime (e : Entry) (p : Promise) : Type 0 where
+  pub not_early : p.earliest ≤ e.time
+  pub not_late : IfSome p.latest (λ latest. e.time ≤ latest)
 
 -- a task's entries in a trace of so many ticks are those that it is to make
 pub record Keeps (b : Behavior) (ticks : ℕ) (entries : List Entry) : Type 0 where
   -- without their times they are the first entries of the task's frames
   pub follows : map told entries ≡ map promised (first_promises b (length entries))
   -- each stands inside its window
-  pub in_time : All IsInTime (zip entries (first_promises b (length entries)))
+  pub in_time : AllZip IsInTime entries (first_promises b (length entries))
   -- none is missing whose window has closed
   pub complete : (f k : ℕ) (p : Promise) (latest : ℕ) →
       slice_get (frame_promises b f) k ≡ Some p → p.latest ≡ Some latest → latest ≤ ticks →
