@@ -1,8 +1,8 @@
 -- Runs one after another.
-use Rattle.std.proofs.Common.{◌≡◌, ℕ, List, [], ◌∷◌, ◌++◌, refl, sym, ap, ◌∙◌, append_assoc}
+use Rattle.std.proofs.Common.{◌≡◌, List, refl, sym, ap, ◌∙◌, append_assoc}
 use Rattle.tcel_core.specs.declared.var.Var.{Var}
 use Rattle.tcel_core.specs.Language.{Block, done, next, joined}
-use Rattle.tcel_core.specs.Meaning.{Memory, Happening, Ran, quiet, after, then_run, exec, exec_stmt}
+use Rattle.tcel_core.specs.Meaning.{Memory, Happening, Ran, after, then_run, exec, exec_stmt}
 
 -- events before a run that comes before another
 pub then_run-after : (events : List Happening) (r : Ran) (more : Memory → Ran) → then_run (after events r) more ≡ after events (then_run r more)

@@ -1,15 +1,13 @@
 -- Programs, runs and traces on which the definitions are worked out.
-use Rattle.std.specs.Prelude.{ℕ, ℤ, pos, negsuc, List, [], ◌∷◌, Option, Some, None, codes, ◌++◌}
+use Rattle.std.specs.Prelude.{ℕ, ℤ, pos, List, [], ◌∷◌, Option, Some, None, codes}
 use Rattle.tcel_num.specs.declared.op.Op.TheVariants.{Add, Sub, Div, Rem, Neg, Less, Greater}
 use Rattle.tcel_num.specs.Entry as trace
 use Rattle.tcel_num.specs.Entry.{Entry}
 use Rattle.tcel_num.specs.Plan.{Plan, frame}
-use Rattle.tcel_core.specs.declared.event.Event.{Event}
-use Rattle.tcel_core.specs.declared.event.EventKind.{EventKind}
 use Rattle.tcel_core.specs.declared.var.Keep.{Keep}
 use Rattle.tcel_core.specs.declared.var.Var.{Var}
 use Rattle.tcel_core.specs.declared.var.VarKind.{VarKind}
-use Rattle.tcel_core.specs.Language.{Expr, number, variable, element, unary, binary, Window, Block, done, next, Stmt, item, choice, timed, Act, assign, assign_at, receive, send, for_loop, while_loop, copy, Task}
+use Rattle.tcel_core.specs.Language.{Expr, number, variable, element, unary, binary, Window, Block, done, next, item, choice, timed, assign, assign_at, receive, send, for_loop, while_loop, copy, Task}
 
 -- a scalar or an array of a task
 abbrev pub int_var : List ℕ → Keep → Var
