@@ -2,7 +2,15 @@
 #![tactic(auto)]
 
 mod costs;
+mod examples;
+mod fault;
+mod flaw;
 mod image;
+mod writing;
 
 pub use costs::{CostKey, Costs};
+pub use examples::machine_examples;
+pub use fault::ImageFail;
+pub use flaw::{Flaw, FlawKind};
 pub use image::{Image, ImageState, ImageTask, Instr, Line, StateKind};
+pub use writing::encode;

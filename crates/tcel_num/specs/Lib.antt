@@ -6,3 +6,4 @@ pub mod Name
 pub mod NameInside
 pub mod Plan
 pub mod Schedule
+pub mod Words

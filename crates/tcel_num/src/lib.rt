@@ -3,6 +3,7 @@
 
 mod arithmetic;
 mod at;
+mod examples;
 mod memory;
 mod name;
 mod op;
@@ -10,7 +11,11 @@ mod port_row;
 
 pub use arithmetic::{add, div, mul, neg, rem, sub};
 pub use at::At;
+pub use examples::{arithmetic_example, lateness_example};
 pub use memory::NoMemory;
 pub use name::Name;
 pub use op::Op;
 pub use port_row::PortRow;
+
+#[cfg(test)]
+mod tests;
