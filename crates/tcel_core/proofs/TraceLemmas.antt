@@ -8,7 +8,8 @@ use Rattle.tcel_num.specs.Entry.{Entry, What, send, first, end}
 use Rattle.tcel_num.specs.Plan.{Plan, frame}
 use Rattle.tcel_num.specs.Schedule.{served}
 use Rattle.tcel_core.specs.Examples.{counter, counter_streams, counter_plans, entry, passed_on, counted}
-use Rattle.tcel_core.specs.Meets.{Behavior, Promise, Keeps, Meets, IsInTime, behavior_of, first_promise, end_promise, frame_promises, promises, entries_of}
+use Rattle.tcel_core.specs.Meets.{Keeps, Meets, IsInTime, entries_of}
+use Rattle.tcel_core.specs.Promises.{Behavior, Promise, behavior_of, first_promise, end_promise, frame_promises, promises}
 
 -- what the counter is to do
 abbrev pub behavior : Behavior

@@ -6,7 +6,8 @@ use Rattle.tcel_core.specs.declared.var.Var.{Var}
 use Rattle.tcel_core.specs.declared.var.VarKind.{VarKind}
 use Rattle.tcel_core.specs.Cells.{all_words, words_of}
 use Rattle.tcel_core.specs.Language.{Task}
-use Rattle.tcel_core.specs.Meaning.{Memory, Ran, exec}
+use Rattle.tcel_core.specs.Meaning.{exec}
+use Rattle.tcel_core.specs.Outcome.{Memory, Outcome}
 use Rattle.tcel_core.specs.Windows.{event_of}
 
 -- whether a variable is kept from frame to frame
@@ -54,7 +55,7 @@ pub record Frame : Type 0 where
   pub state : List ℤ
 
 -- what a run of a body shows, in a frame with this deadline
-abbrev pub shown : ℕ → List Var → Ran → Frame
+abbrev pub shown : ℕ → List Var → Outcome → Frame
 shown deadline vars r = record { events = map (event_of deadline) r.events; state = state_of vars r.memory.cells }
 
 -- frame f of a task over these streams, one for each input

@@ -4,7 +4,7 @@ use native.Mathlib.Decide.{dec_le}
 use Rattle.std.proofs.Math.Nat.{add-suc}
 use Rattle.std.proofs.Math.Seq.{take-append_seam}
 use Rattle.std.proofs.lemmas.List.{length-map, take-append-le}
-use Rattle.tcel_core.specs.Meets.{Behavior, Promise, event_promise, first_promise, end_promise, frame_promises, promises, first_promises}
+use Rattle.tcel_core.specs.Promises.{Behavior, Promise, event_promise, first_promise, end_promise, frame_promises, promises, first_promises}
 
 -- a frame has its events and two entries more
 pub length-frame_promises : (b : Behavior) (f : ℕ) → length (frame_promises b f) ≡ length (b.frames f).events + 2
