@@ -1,5 +1,5 @@
 mod InputsLemmas
 pub mod MeaningLaws
-pub mod MeetsLaws
+pub mod PromiseLaws
 pub mod PlainLaws
 mod TraceLemmas

@@ -4,7 +4,7 @@ use Rattle.tcel_num.specs.declared.op.Op.{Op}
 use Rattle.tcel_core.specs.declared.expr.CoreExpr.{CoreExpr, CoreExpr-F, roll-CoreExpr}
 use Rattle.tcel_core.specs.declared.expr.CoreExpr.{the_lemmas as expr_lemmas}
 use Rattle.tcel_core.specs.declared.body.Body.{Body}
-use Rattle.tcel_core.specs.declared.body.CoreStmt.{CoreStmt, CoreStmt-F, roll-CoreStmt}
+use Rattle.tcel_core.specs.declared.body.CoreStmt.{CoreStmt-F, roll-CoreStmt}
 use Rattle.tcel_core.specs.declared.body.CoreStmt.{the_lemmas as stmt_lemmas}
 use Rattle.tcel_core.specs.declared.body.Item.{Item, Item-F, roll-Item}
 use Rattle.tcel_core.specs.Language.{number, variable, element, unary, binary, Window, item, choice, timed, assign, assign_at, receive, send, for_loop, while_loop, copy}

@@ -1,14 +1,15 @@
 -- Traces of the counter.
-use Rattle.std.proofs.Common.{◌≡◌, ℕ, zero, suc, ◌+◌, ◌*◌, ◌<◌, ◌≤◌, ℤ, pos, List, [], ◌∷◌, ◌++◌, length, get_or, map, refl, sym, ap, subst, ◌∙◌, zero-le, Option, Some, None, arith, add-one, lit<, lit≤}
-use Rattle.std.specs.Prelude.{slice_get, All}
+use Rattle.std.proofs.Common.{◌≡◌, ℕ, zero, suc, ◌+◌, ◌*◌, ◌<◌, ◌≤◌, pos, List, [], ◌∷◌, ◌++◌, length, get_or, refl, sym, ap, subst, ◌∙◌, zero-le, Option, Some, None, arith, lit<, lit≤}
+use Rattle.std.specs.Prelude.{slice_get}
 use Rattle.std.specs.Int.{int_wrap}
 use Rattle.std.specs.List.Sorted.{IsStrictlyIncreasing}
 use Rattle.std.proofs.lemmas.Option.{slice_get_within, none-some, same_Some}
-use Rattle.tcel_num.specs.Entry.{Entry, What, receive, send, first, end}
+use Rattle.tcel_num.specs.Entry.{Entry, What, send, first, end}
 use Rattle.tcel_num.specs.Plan.{Plan, frame}
 use Rattle.tcel_num.specs.Schedule.{served}
 use Rattle.tcel_core.specs.Examples.{counter, counter_streams, counter_plans, entry, passed_on, counted}
-use Rattle.tcel_core.specs.Meets.{Behavior, Promise, Keeps, Shows, Meets, IsInTime, behavior_of, first_promise, end_promise, frame_promises, promises, first_promises, entries_of}
+use Rattle.tcel_core.specs.Meets.{Keeps, Meets, IsInTime, entries_of}
+use Rattle.tcel_core.specs.Promises.{Behavior, Promise, behavior_of, first_promise, end_promise, frame_promises, promises}
 
 -- what the counter is to do
 abbrev pub behavior : Behavior

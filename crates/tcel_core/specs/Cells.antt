@@ -1,5 +1,6 @@
 -- The words of a task's variables: one list, with the variables in order.
-use Rattle.std.specs.Prelude.{ℕ, ◌+◌, nat_lt, ℤ, pos, negsuc, List, [], ◌∷◌, ◌++◌, length, take, drop, slice_index_or, slice_set, if◌then◌else◌, slice_get, None, Some, Option}
+use Rattle.std.specs.Prelude.{ℕ, ◌+◌, ℤ, pos, List, [], ◌∷◌, take, drop, slice_index_or, slice_set}
+use Rattle.tcel_num.specs.Words.{element, with_element, copied}
 use Rattle.tcel_core.specs.declared.var.Var.{Var}
 use Rattle.tcel_core.specs.declared.var.VarKind.{VarKind}
 
@@ -32,24 +33,12 @@ set_word vars cells v x = slice_set cells (place vars v) x
 
 -- the element of an array, or 0 out of range
 abbrev pub element_at : List Var → List ℤ → ℕ → ℤ → ℤ
-element_at vars cells v (pos k) =
-    if nat_lt k (width vars v) then slice_index_or cells (place vars v + k) (pos 0) else pos 0
-element_at vars cells v (negsuc k) = pos 0
+element_at vars cells v i = element cells (place vars v) (width vars v) i
 
 -- an element of an array is set; out of range nothing changes
 abbrev pub set_element : List Var → List ℤ → ℕ → ℤ → ℤ → List ℤ
-set_element vars cells v (pos k) x =
-    if nat_lt k (width vars v) then slice_set cells (place vars v + k) x else cells
-set_element vars cells v (negsuc k) x = cells
-
--- all words of a variable
-abbrev pub words : List Var → List ℤ → ℕ → List ℤ
-words vars cells v = take (width vars v) (drop (place vars v) cells)
-
--- words are set, from a place on
-abbrev pub overwrite : List ℤ → ℕ → List ℤ → List ℤ
-overwrite cells at new = take at cells ++ new ++ drop (at + length new) cells
+set_element vars cells v i x = with_element cells (place vars v) (width vars v) i x
 
 -- all words of the second variable are set to those of the first
 abbrev pub copy_words : List Var → List ℤ → ℕ → ℕ → List ℤ
-copy_words vars cells from to = overwrite cells (place vars to) (words vars cells from)
+copy_words vars cells from to = copied cells (place vars from) (place vars to) (width vars from)

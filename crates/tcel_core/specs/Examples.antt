@@ -1,31 +1,31 @@
 -- Programs, runs and traces on which the definitions are worked out.
-use Rattle.std.specs.Prelude.{ℕ, ℤ, pos, negsuc, List, [], ◌∷◌, Option, Some, None, codes, ◌++◌}
+use Rattle.std.specs.Prelude.{ℕ, ℤ, pos, List, [], ◌∷◌, Option, Some, None, codes}
 use Rattle.tcel_num.specs.declared.op.Op.TheVariants.{Add, Sub, Div, Rem, Neg, Less, Greater}
 use Rattle.tcel_num.specs.Entry as trace
 use Rattle.tcel_num.specs.Entry.{Entry}
 use Rattle.tcel_num.specs.Plan.{Plan, frame}
-use Rattle.tcel_core.specs.declared.event.Event.{Event}
-use Rattle.tcel_core.specs.declared.event.EventKind.{EventKind}
 use Rattle.tcel_core.specs.declared.var.Keep.{Keep}
 use Rattle.tcel_core.specs.declared.var.Var.{Var}
 use Rattle.tcel_core.specs.declared.var.VarKind.{VarKind}
-use Rattle.tcel_core.specs.Language.{Expr, number, variable, element, unary, binary, Window, Block, done, next, Stmt, item, choice, timed, Act, assign, assign_at, receive, send, for_loop, while_loop, copy, Task}
+use Rattle.tcel_core.specs.Language.{Expr, number, variable, element, unary, binary, Window, Block, done, next, item, choice, timed, assign, assign_at, receive, send, for_loop, while_loop, copy, Task}
 
--- a scalar or an array of a task
+-- a scalar
 abbrev pub int_var : List ℕ → Keep → Var
 int_var name keep = record { name = Some name; kind = VarKind.Int; keep = keep; first = pos 0 }
 
+-- an array
 abbrev pub array_var : List ℕ → Keep → ℕ → Var
 array_var name keep n = record { name = Some name; kind = VarKind.Array n; keep = keep; first = pos 0 }
 
--- a `do` block's clauses
+-- the clauses of a `do` block
 abbrev pub window : Option ℕ → Option ℕ → Option ℕ → Window
 window after before within = record { after = after; before = before; within = within }
 
--- x := y + 1 and the like
+-- a variable and what is added to it
 abbrev pub plus : ℕ → Expr → Expr
 plus v e = binary Add (variable v) e
 
+-- the number 1
 abbrev pub one : Expr
 one = number (pos 1)
 
@@ -142,6 +142,15 @@ nested_body =
     (next (item 2 (send (number (pos 2)) 0)) (next (item 3 (send (number (pos 3)) 0)) done)))
     done)))
     done)
+
+-- do start before 9 { do start before 12 { send 1 to o; } send 2 to o; }
+abbrev pub shared_first_body : Block
+shared_first_body =
+    next
+    (timed 1 (window None (Some 9) None)
+    (next (timed 2 (window None (Some 12) None) (next (item 0 (send one 0)) done))
+    (next (item 1 (send (number (pos 2)) 0)) done)))
+    done
 
 -- what the counter's input gives
 abbrev pub counter_streams : List (List ℤ)

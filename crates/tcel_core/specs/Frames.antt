@@ -1,12 +1,13 @@
 -- The frames of a task, one after another for ever.
-use Rattle.std.specs.Prelude.{ℕ, zero, suc, ◌+◌, ◌-◌, ℤ, pos, List, [], ◌∷◌, ◌++◌, length, take, replicate, map, Bool, true, false, if◌then◌else◌}
+use Rattle.std.specs.Prelude.{ℕ, zero, suc, ◌+◌, ◌-◌, ℤ, pos, List, [], ◌∷◌, ◌++◌, take, replicate, map, Bool, true, false, if◌then◌else◌}
 use Rattle.tcel_core.specs.declared.event.Event.{Event}
 use Rattle.tcel_core.specs.declared.var.Keep.{Keep}
 use Rattle.tcel_core.specs.declared.var.Var.{Var}
 use Rattle.tcel_core.specs.declared.var.VarKind.{VarKind}
 use Rattle.tcel_core.specs.Cells.{all_words, words_of}
 use Rattle.tcel_core.specs.Language.{Task}
-use Rattle.tcel_core.specs.Meaning.{Memory, Ran, exec}
+use Rattle.tcel_core.specs.Meaning.{exec}
+use Rattle.tcel_core.specs.Outcome.{Memory, Outcome}
 use Rattle.tcel_core.specs.Windows.{event_of}
 
 -- whether a variable is kept from frame to frame
@@ -54,7 +55,7 @@ pub record Frame : Type 0 where
   pub state : List ℤ
 
 -- what a run of a body shows, in a frame with this deadline
-abbrev pub shown : ℕ → List Var → Ran → Frame
+abbrev pub shown : ℕ → List Var → Outcome → Frame
 shown deadline vars r = record { events = map (event_of deadline) r.events; state = state_of vars r.memory.cells }
 
 -- frame f of a task over these streams, one for each input

@@ -5,5 +5,7 @@ pub mod Inputs
 pub mod Language
 pub mod Meaning
 pub mod Meets
+pub mod Outcome
 pub mod Plain
+pub mod Promises
 pub mod Windows

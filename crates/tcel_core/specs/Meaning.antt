@@ -1,56 +1,11 @@
 -- What expressions and statements do. A statement's meaning knows no time.
-use Rattle.std.specs.Prelude.{ℕ, zero, suc, ℤ, pos, Bool, true, false, List, [], ◌∷◌, ◌++◌, slice_index_or, slice_set, if◌then◌else◌}
+use Rattle.std.specs.Prelude.{ℕ, ℤ, pos, List, [], ◌∷◌, slice_index_or, slice_set, if◌then◌else◌}
 use Rattle.tcel_num.specs.Arithmetic.{holds, unary_value, binary_value}
-use Rattle.tcel_core.specs.declared.event.EventKind.{EventKind}
 use Rattle.tcel_core.specs.declared.event.EventKind.TheVariants.{Receive, Send}
 use Rattle.tcel_core.specs.declared.var.Var.{Var}
 use Rattle.tcel_core.specs.Cells.{word, set_word, element_at, set_element, copy_words}
-use Rattle.tcel_core.specs.Language.{Expr, number, variable, element, unary, binary, Window, Block, done, next, Stmt, item, choice, timed, Act, assign, assign_at, receive, send, for_loop, while_loop, copy}
-
--- what a task has while it runs: the words of its variables, and the values that each input has left
-pub record Memory : Type 0 where
-  pub cells : List ℤ
-  pub inputs : List (List ℤ)
-
--- a `do` block around an event: its number, its window, and whether the event is its first one
-pub record Around : Type 0 where
-  pub number : ℕ
-  pub window : Window
-  pub leads : Bool
-
--- an event: a value that came from an input or went to an output, and the blocks around it, the outermost first
-pub record Happening : Type 0 where
-  pub kind : EventKind
-  pub port : ℕ
-  pub value : ℤ
-  pub around : List Around
-
--- what a run leaves, and the events that it made
-pub record Ran : Type 0 where
-  pub memory : Memory
-  pub events : List Happening
-
--- a run without an event
-abbrev pub quiet : Memory → Ran
-quiet m = record { memory = m; events = [] }
-
--- a run after these events
-abbrev pub after : List Happening → Ran → Ran
-after events r = record { memory = r.memory; events = events ++ r.events }
-
--- one run, and then another from what it left
-abbrev pub then_run : Ran → (Memory → Ran) → Ran
-then_run r more = after r.events (more r.memory)
-
--- rounds 0 to n - 1
-abbrev pub rounds : ℕ → (ℕ → Memory → Ran) → Memory → Ran
-rounds zero round m = quiet m
-rounds (suc n) round m = then_run (rounds n round m) (round n)
-
--- rounds while the test holds, at most n
-abbrev pub rounds_while : ℕ → (Memory → Bool) → (Memory → Ran) → Memory → Ran
-rounds_while zero test round m = quiet m
-rounds_while (suc n) test round m = (if test m then (λ k. then_run (round k) (rounds_while n test round)) else quiet) m
+use Rattle.tcel_core.specs.Language.{Expr, number, variable, element, unary, binary, Block, done, next, Stmt, item, choice, timed, Act, assign, assign_at, receive, send, for_loop, while_loop, copy}
+use Rattle.tcel_core.specs.Outcome.{Memory, Outcome, quiet, then_run, rounds, rounds_while, event, inside}
 
 -- the first value, or 0 where none is left
 abbrev pub head_or_zero : List ℤ → ℤ
@@ -78,26 +33,6 @@ received vars m v port =
       inputs = slice_set m.inputs port (tail (slice_index_or m.inputs port []));
     }
 
--- an event with no block around it
-abbrev pub event : EventKind → ℕ → ℤ → Happening
-event kind port value = record { kind = kind; port = port; value = value; around = [] }
-
--- the events of a block, whose first event leads it
-abbrev pub enclosed : ℕ → Window → Bool → List Happening → List Happening
-enclosed n window leads [] = []
-enclosed n window leads (e ∷ es) =
-    record {
-      kind = e.kind;
-      port = e.port;
-      value = e.value;
-      around = record { number = n; window = window; leads = leads } ∷ e.around;
-    }
-    ∷ enclosed n window false es
-
--- a run inside a `do` block
-abbrev pub inside : ℕ → Window → Ran → Ran
-inside n window r = record { memory = r.memory; events = enclosed n window true r.events }
-
 -- the value of an expression
 abbrev pub value : Expr → List Var → List ℤ → ℤ
 value (number n) vars cells = n
@@ -106,19 +41,21 @@ value (element v i) vars cells = element_at vars cells v (value i vars cells)
 value (unary op e) vars cells = unary_value op (value e vars cells)
 value (binary op a b) vars cells = binary_value op (value a vars cells) (value b vars cells)
 
--- what statements, one statement and one item do
 abbrev mutual
-  pub exec : Block → List Var → Memory → Ran
+  -- what statements do, one after another
+  pub exec : Block → List Var → Memory → Outcome
   exec done vars m = quiet m
   exec (next s rest) vars m = then_run (exec_stmt s vars m) (exec rest vars)
 
-  pub exec_stmt : Stmt → List Var → Memory → Ran
+  -- what one statement does
+  pub exec_stmt : Stmt → List Var → Memory → Outcome
   exec_stmt (item n act) vars m = exec_act act vars m
   exec_stmt (choice n test held other) vars m =
       (if holds (value test vars m.cells) then exec held vars else exec other vars) m
   exec_stmt (timed n window body) vars m = inside n window (exec body vars m)
 
-  pub exec_act : Act → List Var → Memory → Ran
+  -- what one item does
+  pub exec_act : Act → List Var → Memory → Outcome
   exec_act (assign v e) vars m = quiet (with_cells m (set_word vars m.cells v (value e vars m.cells)))
   exec_act (assign_at v i e) vars m =
       quiet (with_cells m (set_element vars m.cells v (value i vars m.cells) (value e vars m.cells)))

@@ -25,13 +25,14 @@ abbrev pub block_of : List Stmt → Block
 block_of [] = done
 block_of (s ∷ ss) = next s (block_of ss)
 
--- one level of a statement, of an item and of a body, with what it holds already plain
+-- one level of a statement, with what it holds already plain
 abbrev pub stmt_step : CoreStmt-F Stmt Act Block → Stmt
 stmt_step (CoreStmt-F.Item id act) = item id act
 stmt_step (CoreStmt-F.If id test held other) = choice id (plain_expr test) held other
 stmt_step (CoreStmt-F.Do id after before within body) =
     timed id (record { after = after; before = before; within = within }) body
 
+-- one level of an item
 abbrev pub item_step : Item-F Stmt Act Block → Act
 item_step (Item-F.Assign v e) = assign v (plain_expr e)
 item_step (Item-F.AssignAt v i e) = assign_at v (plain_expr i) (plain_expr e)
@@ -41,6 +42,7 @@ item_step (Item-F.For v turns body) = for_loop v turns body
 item_step (Item-F.While test turns body) = while_loop (plain_expr test) turns body
 item_step (Item-F.Copy from to) = copy from to
 
+-- one level of a body
 abbrev pub body_step : Body-F Stmt Act Block → Block
 body_step b = block_of b.list
 

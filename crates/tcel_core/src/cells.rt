@@ -25,3 +25,17 @@ impl Cells {
         self.words[place]
     }
 }
+
+#[cfg(test)]
+mod tests {
+    use super::Cells;
+    use std::test::Fail;
+
+    #[test]
+    fn words_are_read(rt: HostRuntime) -> Result<(), Fail> {
+        let words = vec![in rt.alloc(); 7, -8]?;
+        let cells = Cells { words };
+        assert_eq!(rt; cells.word(1), -8);
+        Ok(())
+    }
+}

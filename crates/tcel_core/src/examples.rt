@@ -1,7 +1,8 @@
 ghost use Rattle.std.specs.Prelude.{◌≡◌, [], ◌∷◌, ◌++◌, pos, negsuc, ℤ, ℕ, IfOk};
-ghost use Rattle.tcel_core.specs.Examples.{counter, counter_vars, counter_body, alarm, alarm_body, edge_vars, edge_body, loop_vars, for_body, while_body, array_body, nested_body, counter_streams, counter_plans, entry, passed_on, counted, plus, one};
+ghost use Rattle.tcel_core.specs.Examples.{counter, counter_vars, counter_body, alarm, alarm_body, edge_vars, edge_body, loop_vars, for_body, while_body, array_body, nested_body, shared_first_body, counter_streams, counter_plans, entry, passed_on, counted, plus, one};
 ghost use Rattle.tcel_core.specs.Language.{next, done, item, choice, send, assign, number, variable, binary};
-ghost use Rattle.tcel_core.specs.Meaning.{exec, event, quiet};
+ghost use Rattle.tcel_core.specs.Meaning.{exec};
+ghost use Rattle.tcel_core.specs.Outcome.{event, quiet};
 ghost use Rattle.tcel_core.specs.Frames.{frame_of, shown};
 ghost use Rattle.tcel_core.specs.Meets.{Meets};
 ghost use Rattle.tcel_core.specs.Plain.{plain_expr, plain_stmt, plain_body};
@@ -155,6 +156,9 @@ pub fn frame_examples()
         ∷ record { port = 0; kind = Send; value = pos 1; earliest = 3; latest = 9 }
         ∷ record { port = 0; kind = Send; value = pos 2; earliest = 5; latest = 12 }
         ∷ record { port = 0; kind = Send; value = pos 3; earliest = 5; latest = 15 } ∷ [] }
+    ensures shared_first { (shown 30 counter_vars (exec shared_first_body counter_vars (record { cells = pos 0 ∷ pos 0 ∷ []; inputs = [] }))).events ≡
+        record { port = 0; kind = Send; value = pos 1; earliest = 0; latest = 9 }
+        ∷ record { port = 0; kind = Send; value = pos 2; earliest = 0; latest = 30 } ∷ [] }
 {}
 
 /// A trace that meets its program, and traces that don't.

@@ -1,11 +1,12 @@
 ghost use Rattle.std.specs.Prelude.{◌≡◌, ◌++◌, List, ℕ, length, map};
 ghost use Rattle.tcel_core.specs.Language.{Block, joined};
-ghost use Rattle.tcel_core.specs.Meaning.{Memory, exec, then_run};
+ghost use Rattle.tcel_core.specs.Meaning.{exec};
+ghost use Rattle.tcel_core.specs.Outcome.{Memory, then_run};
 ghost use Rattle.tcel_core.specs.Plain.{block_of, plain_body, plain_set, plain_stmt, plain_task};
 ghost use Rattle.tcel_core.specs.declared.body.Body.{Body};
 ghost use Rattle.tcel_core.specs.declared.set.CoreTask.{CoreTask};
 ghost use Rattle.tcel_core.specs.declared.set.Set.{Set};
-ghost use Rattle.tcel_core.specs.Meets.{Behavior, Promise, first_promises, promises};
+ghost use Rattle.tcel_core.specs.Promises.{Behavior, Promise, first_promises, promises};
 ghost use Rattle.tcel_core.specs.declared.var.Var.{Var};
 
 /// What sets, tasks and bodies are as plain data.

@@ -11,6 +11,8 @@ mod item_set;
 mod laws;
 mod parts;
 mod set;
+#[cfg(test)]
+mod tests;
 mod var;
 
 pub use body::{Body, CoreStmt, Item};

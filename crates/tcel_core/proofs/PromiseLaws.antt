@@ -1,12 +1,10 @@
 -- The entries that a task is to make, frame after frame.
-use Rattle.std.proofs.Common.{◌≡◌, ℕ, zero, suc, ◌+◌, ◌-◌, ◌≤◌, ◌*◌, List, [], ◌∷◌, ◌++◌, length, take, map, refl, sym, ap, ◌∙◌, arith, append_assoc, zero-le, length-append, add-zero, append-nil}
+use Rattle.std.proofs.Common.{◌≡◌, ℕ, zero, suc, ◌+◌, ◌-◌, ◌≤◌, ◌*◌, List, [], ◌∷◌, ◌++◌, length, take, map, sym, ap, ◌∙◌, arith, append_assoc, zero-le, length-append, add-zero, append-nil}
 use native.Mathlib.Decide.{dec_le}
 use Rattle.std.proofs.Math.Nat.{add-suc}
 use Rattle.std.proofs.Math.Seq.{take-append_seam}
 use Rattle.std.proofs.lemmas.List.{length-map, take-append-le}
-use Rattle.std.specs.List.{AllZip}
-use Rattle.tcel_num.specs.Entry.{Entry}
-use Rattle.tcel_core.specs.Meets.{Behavior, Promise, IsInTime, event_promise, first_promise, end_promise, frame_promises, promises, first_promises, told, promised}
+use Rattle.tcel_core.specs.Promises.{Behavior, Promise, event_promise, first_promise, end_promise, frame_promises, promises, first_promises}
 
 -- a frame has its events and two entries more
 pub length-frame_promises : (b : Behavior) (f : ℕ) → length (frame_promises b f) ≡ length (b.frames f).events + 2
