@@ -4,6 +4,7 @@
 mod costs;
 mod fault;
 mod image;
+mod operands;
 mod writing;
 
 pub use costs::{CostKey, Costs};
