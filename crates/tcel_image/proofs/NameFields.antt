@@ -2,7 +2,7 @@
 use Rattle.std.proofs.Common.{◌≡◌, ℕ, zero, suc, ◌+◌, ◌-◌, ◌<◌, ◌≤◌, ◌^◌, Bool, true, false, cond, ltb, ◌&&◌, List, [], ◌∷◌, ◌++◌, length, take, drop, Result, Ok, Err, refl, sym, ap, subst, ◌∙◌, arith, inl, inr, All}
 use Rattle.std.specs.List.{flat_map, list_all, prefix_len}
 use Rattle.std.specs.Int.{w16, IsInRange}
-use Rattle.std.proofs.lemmas.Bool.{ltb-false, le-ltb, cases_Bool, and_parts, and_from}
+use Rattle.std.proofs.lemmas.Bool.{ltb-false, le-ltb, cases_Bool, and_parts, and_from, true_from_ne_false}
 use Rattle.std.proofs.lemmas.List.{take_at, drop_at, take-append-drop, length-append, length-take}
 use Rattle.tcel_num.specs.Name.{IsName, is_word, is_reserved, may_start, may_follow}
 use Rattle.tcel_image.specs.declared.fault.Fault.{Fault}
@@ -95,3 +95,15 @@ names_reads =
     as_reads names NamesInRange
     (bind_reads (number_reads w16 (2 ^ 16) 0 256 wide16 (omega arith)) (λ (ns : List (List ℕ)). length ns) (λ n range. many_reads name_reads n) (λ n range ns h. h.0))
     (λ ns h. refl) (λ ns h. record { count = h.0.1; each = h.1.1 }) (λ ns h. ((omega arith, h.count), (refl, h.each)))
+
+-- what could be a name by its bytes and is none is a reserved word
+pub reserved_word : (count : ℕ) → IsInRange 1 32 count → (bytes text : List ℕ) → count ≤ length bytes → text ≡ take count bytes → count ≤ name_front text → (IsName text → ⊥)
+    → text_at count bytes ≡ Err (faults.Value (length bytes + 1))
+unfolding text_at
+reserved_word count range bytes text long text-is word_long none =
+    let len : length text ≡ count = ap (λ (t : List ℕ). length t) text-is ∙ omega (arith, length-take count bytes) in
+    let word : is_word text ≡ true = word_from_front text (omega (arith, len, range.0)) (omega (arith, len, word_long)) in
+    let reserved : is_reserved text ≡ true = true_from_ne_false (is_reserved text) (λ free. none (record { word = word; short = omega (arith, len, range.1); free = free })) in
+    let here : is_reserved (take count bytes) ≡ true = ap is_reserved (sym text-is) ∙ reserved in
+    let front : count ≤ name_front (take count bytes) = subst (λ (t : List ℕ). count ≤ name_front t) text-is word_long in
+    rw (le-ltb (length bytes) count long, le-ltb (name_front (take count bytes)) count front, here) refl

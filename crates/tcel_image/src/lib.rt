@@ -5,9 +5,11 @@ mod costs;
 mod fault;
 mod image;
 mod operands;
+mod reading;
 mod writing;
 
 pub use costs::{CostKey, Costs};
 pub use fault::ImageFail;
 pub use image::{Image, ImageState, ImageTask, Instr, Line, StateKind};
+pub use reading::decode;
 pub use writing::encode;
