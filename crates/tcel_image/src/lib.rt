@@ -6,6 +6,8 @@ mod examples;
 mod fault;
 mod flaw;
 mod image;
+mod operands;
+mod reading;
 mod writing;
 
 pub use costs::{CostKey, Costs};
@@ -13,4 +15,5 @@ pub use examples::machine_examples;
 pub use fault::ImageFail;
 pub use flaw::{Flaw, FlawKind};
 pub use image::{Image, ImageState, ImageTask, Instr, Line, StateKind};
+pub use reading::decode;
 pub use writing::encode;
