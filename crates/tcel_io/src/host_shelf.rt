@@ -1,5 +1,6 @@
-ghost use Rattle.std.specs.Prelude.{◌≡◌, ◌<◌, ◌≤◌, ◌+◌, ◌^◌, ◌++◌, [], length, vec_len, IsErrOf, IfOk, OnOk, OnErr};
-ghost use Rattle.std.specs.Io.{StartsWith};
+ghost use Rattle.std.specs.Prelude.{◌≡◌, ◌<◌, ◌≤◌, ◌+◌, ◌++◌, [], length, vec_len, IsErrOf, IfOk, IfSome, OnOk, OnErr};
+ghost use Rattle.std.specs.Io.{StartsWith, appended_bytes};
+ghost use Rattle.std.specs.Io.KnownBytes.{Consumes, IsAtEnd};
 ghost use Rattle.tcel_io.specs.Shelf.{AddsAtMost};
 
 use crate::loaded::Loaded;
@@ -79,6 +80,8 @@ fn append_path<R: Files>(
 /// Appends what the reader has, and takes it back where that is more than the limit or a read fails.
 fn append_all<R: Read>(reader: &mut R, limit: usize, into: &mut Vec<u8>) -> Result<(), LoadFail>
     ensures limited { OnOk result (AddsAtMost limit into.old.items into.new.items) }
+    ensures exact { OnOk result (IfSome (R.remaining reader.old) (λ bytes. into.new.items ≡ into.old.items ++ bytes)) }
+    ensures too_long { IsErrOf result LoadFail.TooLong → IfSome (R.remaining reader.old) (λ bytes. limit < length bytes) }
     ensures unchanged { OnErr result (into.new.items ≡ into.old.items) }
 {
     let start = into.len();
@@ -92,6 +95,8 @@ fn append_all<R: Read>(reader: &mut R, limit: usize, into: &mut Vec<u8>) -> Resu
 /// Appends block by block until a read gives nothing. It refuses once there is a byte more than the limit.
 fn append_up_to<R: Read>(reader: &mut R, limit: usize, into: &mut Vec<u8>) -> Result<(), LoadFail>
     ensures limited { OnOk result (AddsAtMost limit into.old.items into.new.items) }
+    ensures exact { OnOk result (IfSome (R.remaining reader.old) (λ bytes. into.new.items ≡ into.old.items ++ bytes)) }
+    ensures too_long { IsErrOf result LoadFail.TooLong → IfSome (R.remaining reader.old) (λ bytes. limit < length bytes) }
     ensures starts { StartsWith into.new.items into.old.items }
 {
     let start = into.len();
@@ -115,6 +120,10 @@ fn append_block<R: Read>(
 ) -> Result<usize, LoadFail>
     ensures count { IfOk result (λ count. vec_len into.new ≡ vec_len into.old + count) }
     ensures bound { IfOk result (λ count. count ≤ length block.old) }
+    ensures refusal { IsErrOf result LoadFail.TooLong → ⊥ }
+    ensures bytes { OnOk result (Consumes (R.remaining reader.old) (R.remaining reader.new)
+        (appended_bytes into.old.items into.new.items)) }
+    ensures end { IfOk result (λ count. count ≡ 0 → 0 < length block.old → IsAtEnd (R.remaining reader.new)) }
     ensures starts { StartsWith into.new.items into.old.items }
 {
     into.reserve(block.len())?;

@@ -1,4 +1,4 @@
-ghost use Rattle.std.specs.Prelude.{◌≡◌, ◌<◌, ◌++◌, vec_len, vec_capacity, string_bytes, IfOk, IsErrOf, OnErr, OnOk};
+ghost use Rattle.std.specs.Prelude.{◌≡◌, ◌<◌, vec_len, vec_capacity, string_bytes, IfOk, IsErrOf, OnErr, OnOk};
 ghost use Rattle.tcel_io.specs.Load.{AddsLoads, entries_of};
 
 use crate::loaded::{Loaded, Outcome};

@@ -1,5 +1,5 @@
-ghost use Rattle.std.specs.Prelude.{◌≡◌, ◌<◌, ◌≤◌, ◌+◌, ◌↔◌, ◌⊎◌, [], ◌++◌, length, nat_eq, find, Some, IsNone, IsErrOf, IfSome, OnOk, OnErr, Contains};
-ghost use Rattle.std.specs.Option.{option_copied, option_map};
+ghost use Rattle.std.specs.Prelude.{◌≡◌, ◌<◌, ◌≤◌, ◌↔◌, ◌⊎◌, [], ◌++◌, length, nat_eq, find, Some, IsNone, IsErrOf, IfSome, OnOk, OnErr, Contains};
+ghost use Rattle.std.specs.Option.{option_copied};
 ghost use Rattle.std.specs.Cmp.Lexicographic.{pointwise};
 ghost use Rattle.tcel_io.specs.File.{bytes_under};
 ghost use Rattle.tcel_io.specs.Load.{AddsLoads, entries_of};

@@ -1,8 +1,7 @@
-ghost use Rattle.std.specs.Prelude.{◌≡◌, ◌≤◌, ◌+◌, ◌^◌, ◌-◌, ◌<◌, ◌==◌, ◌↔◌, ◌++◌, [], find, min, take, Some, IfOk, IsErr, IsOk, OnOk, OnErr};
-ghost use Rattle.std.specs.Option.{option_copied, option_map};
+ghost use Rattle.std.specs.Prelude.{◌≡◌, ◌≤◌, ◌↔◌, ◌++◌, [], take, Some, IfOk, IsErr, IsOk, OnOk, OnErr};
 ghost use Rattle.tcel_io.specs.Count.{Rose, one_more, puts_after};
 ghost use Rattle.tcel_io.specs.MemSink.{NextPutFails, cut_of, taken_next};
-ghost use Rattle.tcel_io.specs.Reach.{Reaches, reach_after};
+ghost use Rattle.tcel_io.specs.Reach.{Reaches};
 ghost use Rattle.tcel_io.specs.Taken.{Takes, TakesPrefix};
 
 use crate::sink::{Sink, SinkFault};

@@ -22,7 +22,7 @@ impl From<AllocError> for LoadFail {
 }
 
 /// A place that files are loaded from (docs/commands.md, "Files and streams"). It keeps a list of all
-/// loads so far. Its count of faults is the number of entries that ended in one.
+/// loads so far. Its count of faults, `load_faults`, is the number of entries that ended in one.
 pub trait Shelf {
     // The bytes under each name, where they are told.
     ghost told: { Self → List ℕ → Option (List ℕ) };
