@@ -1,13 +1,16 @@
 pub mod WorkedExamples
 pub mod Ahead
 pub mod ExprRuns
+pub mod Inputs
+pub mod Scope
+pub mod Bodies
 pub mod BodyRuns
 pub mod ServedAlone
 pub mod Progress
 pub mod TaskMeets
 pub mod SetRuns
+pub mod Traces
 pub mod SetMeets
 pub mod StateWords
-pub mod Straight
 pub mod WholeFrames
 pub mod PlainMeets
