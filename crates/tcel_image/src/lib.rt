@@ -5,11 +5,13 @@ mod costs;
 mod fault;
 mod image;
 mod operands;
+mod range;
 mod reading;
 mod writing;
 
 pub use costs::{CostKey, Costs};
 pub use fault::ImageFail;
 pub use image::{Image, ImageState, ImageTask, Instr, Line, StateKind};
+pub use range::in_range;
 pub use reading::decode;
 pub use writing::encode;

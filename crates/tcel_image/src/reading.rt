@@ -306,7 +306,7 @@ fn kind_from(number: u8) -> StateKind
     }
 }
 
-fn most_words(kind: StateKind) -> u32
+pub(crate) fn most_words(kind: StateKind) -> u32
     ensures { result ≡ most_words kind }
 {
     match kind {
