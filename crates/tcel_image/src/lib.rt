@@ -13,7 +13,7 @@ mod writing;
 pub use costs::{CostKey, Costs};
 pub use fault::ImageFail;
 pub use image::{Image, ImageState, ImageTask, Instr, Line, StateKind};
-pub use laws::spelling_laws;
+pub use laws::{spelling_example, spelling_laws};
 pub use range::in_range;
 pub use reading::decode;
 pub use writing::encode;
