@@ -17,8 +17,8 @@ all_follow [] h = refl
 all_follow (b ∷ bs) h =
     elim (cases_Bool (may_follow b)) [
       | inl good ↦
-        let longer : length bs ≤ prefix_len may_follow bs = omega (arith, rw good at h) in
-        and_from (may_follow b) (list_all may_follow bs) good (all_follow bs longer)
+          let longer : length bs ≤ prefix_len may_follow bs = omega (arith, rw good at h) in
+          and_from (may_follow b) (list_all may_follow bs) good (all_follow bs longer)
       | inr bad ↦ absurd (omega (arith, rw bad at h))
     ]
 
@@ -34,8 +34,8 @@ word_from_front [] some h = absurd (omega arith)
 word_from_front (b ∷ bs) some h =
     elim (cases_Bool (may_start b)) [
       | inl good ↦
-        let longer : length bs ≤ prefix_len may_follow bs = omega (arith, rw good at h) in
-        and_from (may_start b) (list_all may_follow bs) good (all_follow bs longer)
+          let longer : length bs ≤ prefix_len may_follow bs = omega (arith, rw good at h) in
+          and_from (may_start b) (list_all may_follow bs) good (all_follow bs longer)
       | inr bad ↦ absurd (omega (arith, rw bad at h))
     ]
 
@@ -66,10 +66,13 @@ text_takes count range bytes text rest fits e =
     let len : length front ≡ count = omega (arith, length-take count bytes) in
     let word : is_word front ≡ true = word_from_front front (omega (arith, len, range.0)) (omega (arith, len, word_long)) in
     let is_name : IsName front = record { word = word; short = omega (arith, len, range.1); free = k.0 } in
-    let parts : bytes ≡ front ++ drop count bytes = sym (take-append-drop count bytes) in
-    (record { parts = subst (λ (t : List ℕ). bytes ≡ t ++ rest) text-is (subst (λ (r : List ℕ). bytes ≡ front ++ r) rest-is parts);
-              rest_fits = subst IsBytes rest-is (IsBytes-drop count bytes fits) },
-     subst (λ (t : List ℕ). (length t ≡ count) × IsName t) text-is (len, is_name))
+    let parts : bytes ≡ front ++ drop count bytes = sym (take-append-drop count bytes) in (
+      record {
+        parts = subst (λ (t : List ℕ). bytes ≡ t ++ rest) text-is (subst (λ (r : List ℕ). bytes ≡ front ++ r) rest-is parts);
+        rest_fits = subst IsBytes rest-is (IsBytes-drop count bytes fits);
+      },
+      subst (λ (t : List ℕ). (length t ≡ count) × IsName t) text-is (len, is_name),
+    )
 
 text_again : (text rest : List ℕ) → IsName text → text_at (length text) (text ++ rest) ≡ Ok (text, rest)
 unfolding text_at
@@ -81,7 +84,8 @@ text_again text rest is_name =
 text_reads : (count : ℕ) → IsInRange 1 32 count → Reads (text_at count) (λ text. text) (λ text. (length text ≡ count) × IsName text)
 text_reads count range = record {
   takes = λ bytes text rest fits e. text_takes count range bytes text rest fits e;
-  again = λ text rest fits. subst (λ n. text_at n (text ++ rest) ≡ Ok (text, rest)) fits.0 (text_again text rest fits.1) }
+  again = λ text rest fits. subst (λ n. text_at n (text ++ rest) ≡ Ok (text, rest)) fits.0 (text_again text rest fits.1);
+}
 
 pub name_reads : Reads name_at name IsName
 unfolding name_at

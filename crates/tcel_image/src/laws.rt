@@ -13,13 +13,11 @@ pub fn spelling_laws()
     ensures read_again { IsReadAgain }
     ensures read_only_so { IsReadOnlySo }
     ensures extra_behind { IsExtraBehind }
-{
-}
+{}
 
 /// The spelling of one small image, byte by byte.
 pub fn spelling_example()
     ensures size { length counter_bytes ≡ 256 }
     ensures spelled { spelling counter_image ≡ counter_bytes }
     ensures read { reading counter_bytes ≡ Ok counter_image }
-{
-}
+{}

@@ -17,3 +17,6 @@ pub use laws::{spelling_example, spelling_laws};
 pub use range::in_range;
 pub use reading::decode;
 pub use writing::encode;
+
+#[cfg(test)]
+mod tests;

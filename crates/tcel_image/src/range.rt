@@ -173,5 +173,8 @@ pub fn in_range(image: &Image) -> bool
     ensures { IsTrue result ↔ InRange image.now }
 {
     let count = image.tasks.len();
-    1 <= count && count <= 16 && costs_in_range(&image.costs) && all_in_range(image.tasks.as_slice())
+    1 <= count
+        && count <= 16
+        && costs_in_range(&image.costs)
+        && all_in_range(image.tasks.as_slice())
 }

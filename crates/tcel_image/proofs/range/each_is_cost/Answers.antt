@@ -14,5 +14,5 @@ pub returns : goal.returns
 returns c =
     let past : length c.args.keys.now ≤ c.loop-key.key-index = omega arith in
     let all : All (λ key. IsCost (cost_of c.args.costs.now key)) c.args.keys.now =
-        subst (λ (keys : List CostKey). All (λ key. IsCost (cost_of c.args.costs.now key)) keys) (take_all c.loop-key.key-index c.args.keys.now past) c.loop-key.invariant in
+    subst (λ (keys : List CostKey). All (λ key. IsCost (cost_of c.args.costs.now key)) keys) (take_all c.loop-key.key-index c.args.keys.now past) c.loop-key.invariant in
     (λ t. all, λ h. refl)
