@@ -1,16 +1,14 @@
 -- States, tasks and images as fields, and what all of the bytes spell.
-use Rattle.std.proofs.Common.{◌≡◌, ℕ, ℤ, zero, suc, ◌+◌, ◌-◌, ◌^◌, ◌<◌, ◌≤◌, min, Bool, true, false, cond, eqb, List, [], ◌∷◌, ◌++◌, length, take, drop, Result, Ok, Err, refl, sym, ap, subst, ◌∙◌, arith, inl, inr, All, append_assoc, sum_by}
-use Rattle.std.specs.Prelude.{FitsSigned, nat_eq}
+use Rattle.std.proofs.Common.{◌≡◌, ℕ, zero, suc, ◌+◌, ◌-◌, ◌^◌, ◌≤◌, min, Bool, true, false, eqb, List, [], ◌∷◌, ◌++◌, length, take, drop, Result, Ok, Err, refl, sym, ap, subst, ◌∙◌, arith, All, append_assoc}
+use Rattle.std.specs.Prelude.{nat_eq}
 use Rattle.std.specs.List.{flat_map, AllByRecursion, starts_with}
-use Rattle.std.specs.Int.{w16, w32, w64, IsInRange}
+use Rattle.std.specs.Int.{w16, w32, IsInRange}
 use Rattle.std.specs.Cmp.Lexicographic.{pointwise}
 use Rattle.std.proofs.lemmas.Bool.{eqb-true, and_parts}
 use Rattle.std.proofs.lemmas.List.{append-nil, nil_from_length, take-append-drop}
 use Rattle.std.proofs.lemmas.List.Sums.{sum_by-cons}
 use Rattle.std.proofs.lemmas.List.Elements.{All-from_recursion, recursion_from_All}
-use Rattle.tcel_num.specs.Name.{IsName}
 use Rattle.tcel_image.specs.declared.costs.Costs.{Costs}
-use Rattle.tcel_image.specs.declared.costs.CostKey.{CostKey}
 use Rattle.tcel_image.specs.declared.costs.CostKey.TheVariants as keys
 use Rattle.tcel_image.specs.declared.fault.Fault.{Fault}
 use Rattle.tcel_image.specs.declared.fault.Fault.TheVariants as faults
@@ -19,9 +17,9 @@ use Rattle.tcel_image.specs.declared.image.ImageTask.{ImageTask}
 use Rattle.tcel_image.specs.declared.image.ImageState.{ImageState}
 use Rattle.tcel_image.specs.declared.image.StateKind.{StateKind}
 use Rattle.tcel_image.specs.declared.image.StateKind.TheVariants as kinds
-use Rattle.tcel_image.specs.Costs.{cost_of, CostsInRange, IsCost}
-use Rattle.tcel_image.specs.Spelling.{number, byte, value, name, names, kind_number, flag, state, states, code, task, costs, magic, spelling, most_words, state_words, NamesInRange, StateInRange, StatesInRange, CodeInRange, TaskInRange, InRange}
-use Rattle.tcel_image.specs.Reading.{Reader, after, ◌>>=◌, done, number_at, byte_at, value_at, many_at, name_at, kind_from, state_at, states_from, states_at, task_at, cost_at, costs_at, magic_at, image_at, ended}
+use Rattle.tcel_image.specs.Costs.{CostsInRange, IsCost}
+use Rattle.tcel_image.specs.Spelling.{number, byte, name, names, kind_number, flag, state, states, code, task, costs, magic, spelling, most_words, state_words, StateInRange, StatesInRange, TaskInRange, InRange}
+use Rattle.tcel_image.specs.Reading.{after, ◌>>=◌, done, kind_from, state_at, states_from, states_at, task_at, cost_at, costs_at, magic_at, image_at, ended}
 use Rattle.tcel_image.proofs.Readers.{IsBytes, Takes, Takes-then, Reads, given, given_value, given_rest, bind_ok, done_reads, bind_reads, as_reads}
 use Rattle.tcel_image.proofs.Fields.{number_reads, byte_reads, value_reads, many_reads, wide16, wide32, IsBytes-drop, test_ok}
 use Rattle.tcel_image.proofs.NameFields.{name_reads, names_reads}

@@ -1,20 +1,18 @@
 -- Instructions as fields.
-use Rattle.std.proofs.Common.{◌≡◌, ℕ, ℤ, zero, suc, ◌+◌, ◌-◌, ◌^◌, ◌<◌, ◌≤◌, Bool, true, false, cond, eqb, List, [], ◌∷◌, ◌++◌, length, Result, Ok, Err, refl, sym, ap, subst, ◌∙◌, arith, inl, inr, All, append_assoc}
+use Rattle.std.proofs.Common.{◌≡◌, ℕ, ℤ, zero, suc, ◌^◌, ◌<◌, ◌≤◌, Bool, true, false, cond, eqb, List, ◌++◌, length, Ok, refl, sym, ap, subst, ◌∙◌, arith, append_assoc}
 use Rattle.std.specs.Prelude.{FitsSigned, MatchBool}
-use Rattle.std.specs.List.{flat_map}
 use Rattle.std.specs.Int.{w16, w32, w64, IsInRange}
 use Rattle.std.proofs.lemmas.List.{append-nil}
 use Rattle.tcel_num.specs.declared.op.Op.{Op}
 use Rattle.tcel_num.specs.declared.op.Op.TheVariants as ops
-use Rattle.tcel_image.specs.declared.fault.Fault.{Fault}
 use Rattle.tcel_image.specs.declared.image.Line.{Line}
 use Rattle.tcel_image.specs.declared.image.Instr.{Instr}
 use Rattle.tcel_image.specs.declared.image.Instr.TheVariants as instrs
 use Rattle.tcel_image.specs.declared.operands.Operands.{Operands}
 use Rattle.tcel_image.specs.declared.operands.Range.{Range}
-use Rattle.tcel_image.specs.Spelling.{number, value, byte, three, op_number, opcode, operator, operands, line, code, IsWord, IsLength, InstrInRange, LineInRange, CodeInRange}
-use Rattle.tcel_image.specs.Reading.{Reader, after, ◌>>=◌, done, number_at, byte_at, value_at, many_at, any_word, a_length, a_bound, unused, operands_at, const_at, op_from, operator_at, instr_at, line_at, code_at}
-use Rattle.tcel_image.proofs.Readers.{IsBytes, Takes, Takes-then, Reads, given, given_value, given_rest, bind_ok, done_reads, bind_reads, as_reads}
+use Rattle.tcel_image.specs.Spelling.{number, value, byte, three, op_number, opcode, operator, operands, line, code, InstrInRange, LineInRange, CodeInRange}
+use Rattle.tcel_image.specs.Reading.{Reader, after, ◌>>=◌, done, number_at, byte_at, value_at, any_word, a_length, a_bound, unused, operands_at, const_at, op_from, instr_at, line_at, code_at}
+use Rattle.tcel_image.proofs.Readers.{IsBytes, Takes, Takes-then, Reads, given_value, given_rest, bind_ok, done_reads, bind_reads, as_reads}
 use Rattle.tcel_image.proofs.Fields.{number_reads, byte_reads, value_reads, many_reads, wide16, wide32}
 
 abbrev Within : Range → ℕ → Type 0

@@ -1,5 +1,5 @@
 -- All keys of a cost table.
-use Rattle.std.proofs.Common.{ℕ, ◌<◌, List, length, get_or, arith, All}
+use Rattle.std.proofs.Common.{get_or, arith, All}
 use Rattle.tcel_image.specs.declared.costs.CostKey.{CostKey}
 use Rattle.tcel_image.specs.declared.costs.CostKey.TheVariants as keys
 use Rattle.tcel_image.specs.Costs.{all_keys}

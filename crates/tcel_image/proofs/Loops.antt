@@ -5,7 +5,7 @@ use Rattle.tcel_image.specs.declared.fault.Fault.{Fault}
 use Rattle.tcel_image.specs.declared.fault.ReadError.{ReadError}
 use Rattle.tcel_image.specs.declared.fault.ReadError.TheVariants as errors
 use Rattle.tcel_image.specs.declared.image.ImageState.{ImageState}
-use Rattle.tcel_image.specs.Reading.{Reader, after, ◌>>=◌, done, Fails, many_at, state_at, states_from}
+use Rattle.tcel_image.specs.Reading.{Reader, after, done, Fails, many_at, state_at, states_from}
 
 -- what was read before, and what is still read
 abbrev pub with_front : {A : Type 0} → List A → Result (List A × List ℕ) Fault → Result (List A × List ℕ) Fault

@@ -1,14 +1,13 @@
 -- Names as fields.
-use Rattle.std.proofs.Common.{◌≡◌, ℕ, zero, suc, ◌+◌, ◌-◌, ◌<◌, ◌≤◌, ◌^◌, Bool, true, false, cond, ltb, ◌&&◌, List, [], ◌∷◌, ◌++◌, length, take, drop, Result, Ok, Err, refl, sym, ap, subst, ◌∙◌, arith, inl, inr, All}
-use Rattle.std.specs.List.{flat_map, list_all, prefix_len}
+use Rattle.std.proofs.Common.{◌≡◌, ℕ, ◌+◌, ◌-◌, ◌≤◌, ◌^◌, true, false, cond, ltb, List, [], ◌∷◌, ◌++◌, length, take, drop, Ok, Err, refl, sym, ap, subst, ◌∙◌, arith, inl, inr}
+use Rattle.std.specs.List.{list_all, prefix_len}
 use Rattle.std.specs.Int.{w16, IsInRange}
 use Rattle.std.proofs.lemmas.Bool.{ltb-false, le-ltb, cases_Bool, and_parts, and_from, true_from_ne_false}
 use Rattle.std.proofs.lemmas.List.{take_at, drop_at, take-append-drop, length-append, length-take}
 use Rattle.tcel_num.specs.Name.{IsName, is_word, is_reserved, may_start, may_follow}
-use Rattle.tcel_image.specs.declared.fault.Fault.{Fault}
 use Rattle.tcel_image.specs.declared.fault.Fault.TheVariants as faults
-use Rattle.tcel_image.specs.Spelling.{number, byte, name, names, NamesInRange}
-use Rattle.tcel_image.specs.Reading.{Reader, after, ◌>>=◌, done, number_at, byte_at, many_at, name_front, text_at, name_at, names_at}
+use Rattle.tcel_image.specs.Spelling.{name, names, NamesInRange}
+use Rattle.tcel_image.specs.Reading.{name_front, text_at, name_at, names_at}
 use Rattle.tcel_image.proofs.Readers.{IsBytes, Takes, Reads, given, given_value, given_rest, bind_reads, as_reads}
 use Rattle.tcel_image.proofs.Fields.{IsBytes-drop, guard_ok, number_reads, byte_reads, many_reads, wide16}
 

@@ -1,4 +1,4 @@
-use Rattle.std.proofs.Common.{◌≤◌, List, length, take, All, subst, refl, arith}
+use Rattle.std.proofs.Common.{◌≤◌, List, length, All, subst, refl, arith}
 use Rattle.std.proofs.lemmas.List.{take_all}
 use Rattle.std.proofs.lemmas.List.Elements.{All-more}
 use Rattle.tcel_image.specs.declared.costs.CostKey.{CostKey}

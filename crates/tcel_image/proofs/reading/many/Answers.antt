@@ -1,4 +1,3 @@
-use Rattle.std.proofs.Common.{◌≡◌, ap, ◌∙◌, sym}
 use Rattle.std.proofs.lemmas.Result.{err_from_is_err_and}
 use Rattle.tcel_image.specs.Reading.{many_at}
 use Rattle.tcel_image.proofs.Loops.{goes_on, ends, is_done}

@@ -1,8 +1,7 @@
-use Rattle.std.proofs.Common.{◌≡◌, ap, ◌∙◌, sym, arith}
+use Rattle.std.proofs.Common.{arith}
 use Rattle.std.proofs.lemmas.Result.{err_from_is_err_and}
 use Rattle.std.proofs.lemmas.List.Sums.{sum_by_push}
 use Rattle.tcel_image.specs.declared.image.ImageState.{ImageState}
-use Rattle.tcel_image.specs.Spelling.{state_words}
 use Rattle.tcel_image.specs.Reading.{states_from}
 use Rattle.tcel_image.proofs.Loops.{goes_on_state, ends_state, done_states}
 use Rattle.tcel_image.proofs.reading.states_from.Goals as goal
