@@ -5,4 +5,5 @@ pub mod Lateness
 pub mod Name
 pub mod NameInside
 pub mod Plan
+pub mod PortRow
 pub mod Schedule

@@ -1,0 +1,13 @@
+//! Scripts: the values that a run's inputs receive, one line for each input (docs/formats.md).
+#![tactic(auto)]
+
+mod fail;
+mod line;
+mod number;
+mod read;
+mod row;
+mod script;
+
+pub use fail::ScriptFail;
+pub use read::read_script;
+pub use script::Script;
