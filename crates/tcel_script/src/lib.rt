@@ -1,6 +1,7 @@
 //! Scripts: the values that a run's inputs receive, one line for each input (docs/formats.md).
 #![tactic(auto)]
 
+mod examples;
 mod fail;
 mod line;
 mod number;
@@ -8,6 +9,10 @@ mod read;
 mod row;
 mod script;
 
+pub use examples::script_examples;
 pub use fail::ScriptFail;
 pub use read::read_script;
 pub use script::Script;
+
+#[cfg(test)]
+mod tests;

@@ -1,4 +1,4 @@
-ghost use Rattle.std.specs.Prelude.{◌≡◌, ◌≤◌, length};
+ghost use Rattle.std.specs.Prelude.{◌≡◌, ◌≤◌, length, IfOk};
 ghost use Rattle.tcel_num.specs.PortRow.{HaveDistinctNames};
 ghost use Rattle.tcel_script.specs.Script.{Reads, script_of};
 
@@ -13,7 +13,8 @@ use tcel_num::PortRow;
 pub fn read_script(alloc: Global, bytes: &[u8], ports: &[PortRow]) -> Result<Script, ScriptFail>
     requires short { length bytes.now ≤ 16777216 }
     requires distinct { HaveDistinctNames ports.now }
-    ensures { Reads result (script_of ports.now bytes.now) }
+    ensures read { Reads result (script_of ports.now bytes.now) }
+    ensures tasks { IfOk result (λ script. length script ≡ length ports.now) }
 {
     let mut rows = empty_rows(alloc, ports)?;
     let mut rest = bytes;
