@@ -1,20 +1,18 @@
 -- Instructions as fields.
-use Rattle.std.proofs.Common.{◌≡◌, ℕ, ℤ, zero, suc, ◌+◌, ◌-◌, ◌^◌, ◌<◌, ◌≤◌, Bool, true, false, cond, eqb, List, [], ◌∷◌, ◌++◌, length, Result, Ok, Err, refl, sym, ap, subst, ◌∙◌, arith, inl, inr, All, append_assoc}
+use Rattle.std.proofs.Common.{◌≡◌, ℕ, ℤ, zero, suc, ◌^◌, ◌<◌, ◌≤◌, Bool, true, false, cond, eqb, List, ◌++◌, length, Ok, refl, sym, ap, subst, ◌∙◌, arith, append_assoc}
 use Rattle.std.specs.Prelude.{FitsSigned, MatchBool}
-use Rattle.std.specs.List.{flat_map}
 use Rattle.std.specs.Int.{w16, w32, w64, IsInRange}
 use Rattle.std.proofs.lemmas.List.{append-nil}
 use Rattle.tcel_num.specs.declared.op.Op.{Op}
 use Rattle.tcel_num.specs.declared.op.Op.TheVariants as ops
-use Rattle.tcel_image.specs.declared.fault.Fault.{Fault}
 use Rattle.tcel_image.specs.declared.image.Line.{Line}
 use Rattle.tcel_image.specs.declared.image.Instr.{Instr}
 use Rattle.tcel_image.specs.declared.image.Instr.TheVariants as instrs
 use Rattle.tcel_image.specs.declared.operands.Operands.{Operands}
 use Rattle.tcel_image.specs.declared.operands.Range.{Range}
-use Rattle.tcel_image.specs.Spelling.{number, value, byte, three, op_number, opcode, operator, operands, line, code, IsWord, IsLength, InstrInRange, LineInRange, CodeInRange}
-use Rattle.tcel_image.specs.Reading.{Reader, after, ◌>>=◌, done, number_at, byte_at, value_at, many_at, any_word, a_length, a_bound, unused, operands_at, const_at, op_from, operator_at, instr_at, line_at, code_at}
-use Rattle.tcel_image.proofs.Readers.{IsBytes, Takes, Takes-then, Reads, given, given_value, given_rest, bind_ok, done_reads, bind_reads, as_reads}
+use Rattle.tcel_image.specs.Spelling.{number, value, byte, three, op_number, opcode, operator, operands, line, code, InstrInRange, LineInRange, CodeInRange}
+use Rattle.tcel_image.specs.Reading.{Reader, after, ◌>>=◌, done, number_at, byte_at, value_at, any_word, a_length, a_bound, unused, operands_at, const_at, op_from, instr_at, line_at, code_at}
+use Rattle.tcel_image.proofs.Readers.{IsBytes, Takes, Takes-then, Reads, given_value, given_rest, bind_ok, done_reads, bind_reads, as_reads}
 use Rattle.tcel_image.proofs.Fields.{number_reads, byte_reads, value_reads, many_reads, wide16, wide32}
 
 abbrev Within : Range → ℕ → Type 0
@@ -34,12 +32,12 @@ unfolding operands_at
 operands_reads in_a in_b in_c fits_a fits_b fits_c =
     as_reads spelled (AreWithin in_a in_b in_c)
     (bind_reads (number_reads w32 (2 ^ 32) in_a.least in_a.greatest wide32 fits_a) (λ (o : Operands). o.a)
-      (λ a h. bind_reads (number_reads w32 (2 ^ 32) in_b.least in_b.greatest wide32 fits_b) (λ (o : Operands). o.b)
-        (λ b h. bind_reads (number_reads w32 (2 ^ 32) in_c.least in_c.greatest wide32 fits_c) (λ (o : Operands). o.c)
-          (λ c h. done_reads (record { a = a; b = b; c = c }))
-          (λ c h o e. ap (λ (p : Operands). p.c) e))
-        (λ b h o e. ap (λ (p : Operands). p.b) e.1))
-      (λ a h o e. ap (λ (p : Operands). p.a) e.1.1))
+    (λ a h. bind_reads (number_reads w32 (2 ^ 32) in_b.least in_b.greatest wide32 fits_b) (λ (o : Operands). o.b)
+    (λ b h. bind_reads (number_reads w32 (2 ^ 32) in_c.least in_c.greatest wide32 fits_c) (λ (o : Operands). o.c)
+    (λ c h. done_reads (record { a = a; b = b; c = c }))
+    (λ c h o e. ap (λ (p : Operands). p.c) e))
+    (λ b h o e. ap (λ (p : Operands). p.b) e.1))
+    (λ a h o e. ap (λ (p : Operands). p.a) e.1.1))
     (λ o h. append_assoc (number w32 o.a) (number w32 o.b) (number w32 o.c) ∙ ap (λ (l : List ℕ). number w32 o.a ++ (number w32 o.b ++ l)) (sym (append-nil (number w32 o.c))))
     (λ o h. record { a = h.0; b = h.1.0; c = h.1.1.0 })
     (λ o h. (h.a, (h.b, (h.c, refl))))
@@ -290,7 +288,8 @@ instr_reads : (o p : ℕ) → IsInRange 1 15 o → OperatorFits o p → Reads (i
 instr_reads o p h k = record {
   takes = λ bytes x rest fits e. instr_takes o p h k bytes x rest fits e;
   again = λ x rest is. subst (λ (n : ℕ). instr_at n p (operands x ++ rest) ≡ Ok (x, rest)) is.opcode_is
-    (subst (λ (n : ℕ). instr_at (opcode x) n (operands x ++ rest) ≡ Ok (x, rest)) is.operator_is (instr_again x rest is.in_range)) }
+      (subst (λ (n : ℕ). instr_at (opcode x) n (operands x ++ rest) ≡ Ok (x, rest)) is.operator_is (instr_again x rest is.in_range));
+}
 
 -- ---- lines
 
@@ -337,14 +336,14 @@ unfolding line_at
 line_reads =
     as_reads line LineInRange
     (bind_reads (byte_reads 1 15) (λ (l : Line). opcode l.instr)
-      (λ o ho. bind_reads (one_of_two (eqb o 6)) (λ (l : Line). operator l.instr)
-        (λ p hp. bind_reads (number_reads w16 (2 ^ 16) 0 65535 wide16 (omega arith)) (λ (l : Line). l.depth)
-          (λ d hd. bind_reads (instr_reads o p ho hp) (λ (l : Line). l.instr)
-            (λ i hi. done_reads (record { instr = i; depth = d }))
-            (λ i hi l e. ap (λ (m : Line). m.instr) e))
-          (λ d hd l e. ap (λ (m : Line). m.depth) e.1))
-        (λ p hp l e. e.1.0.operator_is))
-      (λ o ho l e. e.1.1.0.opcode_is))
+    (λ o ho. bind_reads (one_of_two (eqb o 6)) (λ (l : Line). operator l.instr)
+    (λ p hp. bind_reads (number_reads w16 (2 ^ 16) 0 65535 wide16 (omega arith)) (λ (l : Line). l.depth)
+    (λ d hd. bind_reads (instr_reads o p ho hp) (λ (l : Line). l.instr)
+    (λ i hi. done_reads (record { instr = i; depth = d }))
+    (λ i hi l e. ap (λ (m : Line). m.instr) e))
+    (λ d hd l e. ap (λ (m : Line). m.depth) e.1))
+    (λ p hp l e. e.1.0.operator_is))
+    (λ o ho l e. e.1.1.0.opcode_is))
     (λ l h. simp (append_assoc, append-nil))
     (λ l h. record { depth = omega (arith, h.1.1.0.1); instr = h.1.1.1.0.in_range })
     (λ l h. (opcode_in_range l.instr, (operator_fits l.instr, ((omega arith, omega (arith, h.depth)), (record { opcode_is = refl; operator_is = refl; in_range = h.instr }, refl)))))

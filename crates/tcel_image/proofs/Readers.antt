@@ -1,6 +1,5 @@
 -- Readers and what they read: whatever a reader gives is spelled so, and what is spelled so it gives.
-use Rattle.std.proofs.Common.{◌≡◌, ℕ, zero, suc, ◌+◌, ◌^◌, ◌<◌, ◌≤◌, Bool, true, false, cond, ltb, List, [], ◌∷◌, ◌++◌, length, get_or, take, drop, Result, Ok, Err, refl, sym, ap, subst, ◌∙◌, append_assoc, arith, inl, inr, All}
-use Rattle.std.proofs.lemmas.List.{append-nil}
+use Rattle.std.proofs.Common.{◌≡◌, ℕ, ◌<◌, List, [], ◌++◌, get_or, Result, Ok, Err, refl, sym, ap, subst, ◌∙◌, append_assoc}
 use Rattle.tcel_image.specs.declared.fault.Fault.{Fault}
 use Rattle.tcel_image.specs.Reading.{Reader, after, ◌>>=◌, done}
 
@@ -40,7 +39,7 @@ Takes-then a x b y c p q = record { parts = p.parts ∙ ap (λ (t : List ℕ). x
 pub done_reads : {A : Type 0} (x : A) → Reads (done x) (λ _. []) (λ y. y ≡ x)
 done_reads x = record {
   takes = λ bytes y rest fits e.
-    (record { parts = given_rest x y bytes rest e; rest_fits = subst IsBytes (given_rest x y bytes rest e) fits }, sym (given_value x y bytes rest e));
+      (record { parts = given_rest x y bytes rest e; rest_fits = subst IsBytes (given_rest x y bytes rest e) fits }, sym (given_value x y bytes rest e));
   again = λ y rest e. ap (λ z. given z rest) (sym e);
 }
 
@@ -50,16 +49,16 @@ pub bind_reads : {A B : Type 0} {read : Reader A} {spell : A → List ℕ} {Fits
     → Reads (read >>= next) (λ y. spell (part y) ++ spell_rest y) (λ y. Fits (part y) × FitsAt (part y) y)
 bind_reads {A} {B} {read} {spell} {Fits} {next} {spell_rest} {FitsAt} field part others is_part = record {
   takes = λ bytes y rest fits e.
-    let b = bind_ok (read bytes) next (y, rest) e in
-    let first = field.takes bytes b.0 b.1 fits b.2 in
-    let second = (others b.0 first.1).takes b.1 y rest first.0.rest_fits b.3 in
-    let both = Takes-then bytes (spell b.0) b.1 (spell_rest y) rest first.0 second.0 in
-    let same : b.0 ≡ part y = sym (is_part b.0 first.1 y second.1) in
-    (subst (λ x. Takes bytes (spell x ++ spell_rest y) rest) same both, (subst Fits same first.1, subst (λ x. FitsAt x y) same second.1));
+      let b = bind_ok (read bytes) next (y, rest) e in
+      let first = field.takes bytes b.0 b.1 fits b.2 in
+      let second = (others b.0 first.1).takes b.1 y rest first.0.rest_fits b.3 in
+      let both = Takes-then bytes (spell b.0) b.1 (spell_rest y) rest first.0 second.0 in
+      let same : b.0 ≡ part y = sym (is_part b.0 first.1 y second.1) in
+      (subst (λ x. Takes bytes (spell x ++ spell_rest y) rest) same both, (subst Fits same first.1, subst (λ x. FitsAt x y) same second.1));
   again = λ y rest fits.
-    ap (read >>= next) (append_assoc (spell (part y)) (spell_rest y) rest)
-    ∙ ap (λ r. after r next) (field.again (part y) (spell_rest y ++ rest) fits.0)
-    ∙ (others (part y) fits.0).again y rest fits.1;
+      ap (read >>= next) (append_assoc (spell (part y)) (spell_rest y) rest)
+      ∙ ap (λ r. after r next) (field.again (part y) (spell_rest y ++ rest) fits.0)
+      ∙ (others (part y) fits.0).again y rest fits.1;
 }
 
 -- the same reader under another spelling and another condition that say the same
@@ -67,7 +66,7 @@ pub as_reads : {A : Type 0} {read : Reader A} {spell : A → List ℕ} {Fits : A
     → Reads read spell Fits → ((x : A) → Fits x → spell' x ≡ spell x) → ((x : A) → Fits x → Fits' x) → ((x : A) → Fits' x → Fits x) → Reads read spell' Fits'
 as_reads {A} {read} {spell} {Fits} spell' Fits' h same there back = record {
   takes = λ bytes x rest fits e.
-    let t = h.takes bytes x rest fits e in
-    (subst (λ (l : List ℕ). Takes bytes l rest) (sym (same x t.1)) t.0, there x t.1);
+      let t = h.takes bytes x rest fits e in
+      (subst (λ (l : List ℕ). Takes bytes l rest) (sym (same x t.1)) t.0, there x t.1);
   again = λ x rest fits. ap (λ (l : List ℕ). read (l ++ rest)) (same x (back x fits)) ∙ h.again x rest (back x fits);
 }
