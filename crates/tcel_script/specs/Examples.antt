@@ -1,5 +1,5 @@
 -- Worked examples of scripts.
-use Rattle.std.specs.Prelude.{ℕ, ◌++◌, ℤ, pos, negsuc, List, [], ◌∷◌, Result, Ok, Err, codes, flat_map}
+use Rattle.std.specs.Prelude.{ℕ, ◌++◌, pos, negsuc, List, [], ◌∷◌, Result, Ok, Err, codes, flat_map}
 use Rattle.tcel_num.specs.declared.port_row.PortRow.{PortRow}
 use Rattle.tcel_script.specs.declared.fail.ScriptFail.{ScriptFail}
 use Rattle.tcel_script.specs.declared.fail.ScriptFail.TheVariants.{BadLine, NoPort, PortTwice, Number}
