@@ -1,2 +1,10 @@
+pub mod Fields
+pub mod ImageFields
+pub mod InstrFields
+pub mod Keys
 pub mod Lists
+pub mod Loops
+pub mod NameFields
+pub mod Readers
 pub mod Texts
+pub mod Whole

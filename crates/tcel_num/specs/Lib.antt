@@ -7,3 +7,4 @@ pub mod NameInside
 pub mod Plan
 pub mod Schedule
 pub mod Words
+pub mod PortRow

@@ -1,0 +1,23 @@
+ghost use Rattle.std.specs.Prelude.{◌≡◌, length, Ok};
+ghost use Rattle.tcel_image.specs.Spelling.{spelling};
+ghost use Rattle.tcel_image.specs.Reading.{reading};
+ghost use Rattle.tcel_image.specs.SpellingExample.{counter_image, counter_bytes};
+ghost use Rattle.tcel_image.specs.Laws.{IsTold, IsPrefixFree, IsReadAgain, IsReadOnlySo, IsExtraBehind};
+
+/// Laws of the spelling of images, for proofs. Each image in range has one spelling and no other image
+/// has it, none is a proper front of another, a spelling is read as its image, nothing else is read, and
+/// bytes behind a spelling are extra.
+pub fn spelling_laws()
+    ensures told { IsTold }
+    ensures prefix_free { IsPrefixFree }
+    ensures read_again { IsReadAgain }
+    ensures read_only_so { IsReadOnlySo }
+    ensures extra_behind { IsExtraBehind }
+{}
+
+/// The spelling of one small image, byte by byte.
+pub fn spelling_example()
+    ensures size { length counter_bytes ≡ 256 }
+    ensures spelled { spelling counter_image ≡ counter_bytes }
+    ensures read { reading counter_bytes ≡ Ok counter_image }
+{}
