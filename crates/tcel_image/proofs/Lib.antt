@@ -6,4 +6,5 @@ pub mod Lists
 pub mod Loops
 pub mod NameFields
 pub mod Readers
+pub mod Texts
 pub mod Whole

@@ -3,3 +3,8 @@ pub mod Spelling
 pub mod Reading
 pub mod Laws
 pub mod SpellingExample
+pub mod Instructions
+pub mod Machine
+pub mod TraceText
+pub mod Validity
+pub mod Examples

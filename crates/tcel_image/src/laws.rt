@@ -1,7 +1,8 @@
 ghost use Rattle.std.specs.Prelude.{◌≡◌, length, Ok};
 ghost use Rattle.tcel_image.specs.Spelling.{spelling};
 ghost use Rattle.tcel_image.specs.Reading.{reading};
-ghost use Rattle.tcel_image.specs.SpellingExample.{counter_image, counter_bytes};
+ghost use Rattle.tcel_image.specs.Examples.{echo};
+ghost use Rattle.tcel_image.specs.SpellingExample.{echo_bytes};
 ghost use Rattle.tcel_image.specs.Laws.{IsTold, IsPrefixFree, IsReadAgain, IsReadOnlySo, IsExtraBehind, IsShortFront};
 
 /// Laws of the spelling of images, for proofs. Each image in range has one spelling and no other image
@@ -18,7 +19,7 @@ pub fn spelling_laws()
 
 /// The spelling of one small image, byte by byte.
 pub fn spelling_example()
-    ensures size { length counter_bytes ≡ 256 }
-    ensures spelled { spelling counter_image ≡ counter_bytes }
-    ensures read { reading counter_bytes ≡ Ok counter_image }
+    ensures size { length echo_bytes ≡ 256 }
+    ensures spelled { spelling echo ≡ echo_bytes }
+    ensures read { reading echo_bytes ≡ Ok echo }
 {}

@@ -2,7 +2,9 @@
 #![tactic(auto)]
 
 mod costs;
+mod examples;
 mod fault;
+mod flaw;
 mod image;
 mod laws;
 mod operands;
@@ -11,7 +13,9 @@ mod reading;
 mod writing;
 
 pub use costs::{CostKey, Costs};
+pub use examples::machine_examples;
 pub use fault::ImageFail;
+pub use flaw::{Flaw, FlawKind};
 pub use image::{Image, ImageState, ImageTask, Instr, Line, StateKind};
 pub use laws::{spelling_example, spelling_laws};
 pub use range::in_range;

@@ -1,1 +1,4 @@
 pub mod Padding
+pub mod Quotients
+pub mod Responses
+pub mod Served

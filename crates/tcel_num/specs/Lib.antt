@@ -1,2 +1,10 @@
+pub mod Arithmetic
+pub mod Entry
+pub mod Examples
+pub mod Lateness
 pub mod Name
 pub mod NameInside
+pub mod Plan
+pub mod Schedule
+pub mod Words
+pub mod PortRow

@@ -3,13 +3,15 @@ use Rattle.std.specs.Prelude.{◌≡◌, ℕ, ◌-◌, ◌≤◌, List, ◌++◌
 use Rattle.std.proofs.Common.{ap, arith, take-append-drop}
 use Rattle.std.proofs.Math.ListN.{length-take}
 use Rattle.tcel_num.specs.declared.name.Name.TheInside.{Inside}
+use Rattle.tcel_num.specs.Name.{IsName}
 
 -- the bytes of the name
 abbrev pub bytes_of : Inside → List ℕ
 bytes_of a = take a.length a.bytes
 
--- behind the name stand zeros
-pub record IsPadded (a : Inside) : Type 0 where
+-- the bytes are a name, and zeros stand behind it
+pub record IsKept (a : Inside) : Type 0 where
+  pub named : IsName (bytes_of a)
   pub short : a.length ≤ 32
   pub size : length a.bytes ≡ 32
   pub padding : drop a.length a.bytes ≡ replicate (32 - a.length) 0
@@ -22,7 +24,7 @@ length_of : (n : ℕ) (bytes : List ℕ) → n ≤ 32 → length bytes ≡ 32 �
 length_of n bytes short size = simp length-take (omega arith)
 
 -- a name gives back what is kept
-pub inside_of-bytes_of : (a : Inside) → IsPadded a → inside_of (bytes_of a) ≡ a
+pub inside_of-bytes_of : (a : Inside) → IsKept a → inside_of (bytes_of a) ≡ a
 inside_of-bytes_of a h =
     rw (length_of a.length a.bytes h.short h.size)
     (rw (← h.padding)

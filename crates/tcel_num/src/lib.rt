@@ -1,14 +1,21 @@
 //! Arithmetic, names, places and operators: what every other crate speaks of.
 #![tactic(auto)]
 
+mod arithmetic;
 mod at;
+mod examples;
 mod memory;
 mod name;
 mod op;
 mod port_row;
 
+pub use arithmetic::{add, div, mul, neg, rem, sub};
 pub use at::At;
+pub use examples::{arithmetic_example, lateness_example};
 pub use memory::NoMemory;
 pub use name::Name;
 pub use op::Op;
 pub use port_row::PortRow;
+
+#[cfg(test)]
+mod tests;

@@ -60,11 +60,11 @@ impl Model for Name {
 
     ghost Value = { List ℕ };
 
-    ghost use Rattle.tcel_num.specs.NameInside.{bytes_of, IsPadded, inside_of, inside_of-bytes_of};
+    ghost use Rattle.tcel_num.specs.NameInside.{bytes_of, IsKept, inside_of, inside_of-bytes_of};
 
     ghost view = { bytes_of };
 
-    ghost invariant = { IsPadded };
+    ghost invariant = { IsKept };
 
     ghost inverse = { inside_of };
 
@@ -100,7 +100,8 @@ impl Name {
 
     /// Its 1 to 32 bytes.
     pub fn bytes(&self) -> &[u8]
-        ensures { result.now ≡ self.now }
+        ensures value { result.now ≡ self.now }
+        ensures valid { IsName self.now }
     {
         &self.bytes[..usize::from(self.length)]
     }

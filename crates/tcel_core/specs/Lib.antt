@@ -1,0 +1,11 @@
+pub mod Cells
+pub mod Examples
+pub mod Frames
+pub mod Inputs
+pub mod Language
+pub mod Meaning
+pub mod Meets
+pub mod Outcome
+pub mod Plain
+pub mod Promises
+pub mod Windows

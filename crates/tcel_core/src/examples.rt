@@ -1,0 +1,155 @@
+ghost use Rattle.std.specs.Prelude.{◌≡◌, [], ◌∷◌, ◌++◌, pos, negsuc, ℤ, ℕ, IfOk, replicate};
+ghost use Rattle.tcel_core.specs.Examples.{MeetsCounter, alarm, alarm_body, array_body, counted, counter, counter_body, counter_streams, counter_vars, edge_body, edge_vars, entry, for_body, loop_vars, memory, nested_body, one, passed_on, plus, primed_vars, sent, shared_first_body, taken, while_body};
+ghost use Rattle.tcel_core.specs.Language.{next, done, item, choice, send, assign, number, variable, binary};
+ghost use Rattle.tcel_core.specs.Meaning.{exec};
+ghost use Rattle.tcel_core.specs.Outcome.{event, quiet};
+ghost use Rattle.tcel_core.specs.Frames.{declared_state, frame_of, shown, start_cells};
+ghost use Rattle.tcel_core.specs.Plain.{plain_expr, plain_stmt, plain_body};
+ghost use Rattle.tcel_num.specs.Entry.{first};
+ghost use Rattle.tcel_core.specs.declared.event.EventKind.TheVariants.{Receive, Send};
+
+use crate::body::{Body, CoreStmt, Item};
+use crate::expr::CoreExpr;
+use sqlite_items::{Boxed, Items};
+use std::alloc::Global;
+use tcel_num::{NoMemory, Op};
+
+/// A body of one statement.
+fn single(alloc: Global, statement: CoreStmt) -> Result<Body, NoMemory>
+    ensures { IfOk result (λ b. plain_body b ≡ next (plain_stmt statement) done) }
+{
+    let mut list = Items::new(alloc);
+    list.push(statement)?;
+    Ok(Body { list })
+}
+
+/// A body of two statements.
+fn pair(alloc: Global, first: CoreStmt, second: CoreStmt) -> Result<Body, NoMemory>
+    ensures { IfOk result (λ b. plain_body b ≡ next (plain_stmt first) (next (plain_stmt second) done)) }
+{
+    let mut list = Items::new(alloc);
+    list.push(first)?;
+    list.push(second)?;
+    Ok(Body { list })
+}
+
+/// `n := n + 1`, where n is variable 0.
+fn count(alloc: Global) -> Result<Item, NoMemory>
+    ensures { IfOk result (λ i. plain_stmt (CoreStmt.Item 1 i) ≡ item 1 (assign 0 (plus 0 one))) }
+{
+    let old = Boxed::new(alloc, CoreExpr::Var(0))?;
+    let one = Boxed::new(alloc, CoreExpr::Number(1))?;
+    Ok(Item::Assign(0, CoreExpr::Binary(Op::Add, old, one)))
+}
+
+/// `x > 0`, where x is variable 1.
+fn is_positive(alloc: Global) -> Result<CoreExpr, NoMemory>
+    ensures { IfOk result (λ e. plain_expr e ≡ binary Op.Greater (variable 1) (number (pos 0))) }
+{
+    let left = Boxed::new(alloc, CoreExpr::Var(1))?;
+    let right = Boxed::new(alloc, CoreExpr::Number(0))?;
+    Ok(CoreExpr::Binary(Op::Greater, left, right))
+}
+
+/// `if x > 0 { n := n + 1; } else { send n to o; }`
+fn count_or_send(alloc: Global) -> Result<CoreStmt, NoMemory>
+    ensures { IfOk result (λ s. plain_stmt s ≡ choice 0 (binary Op.Greater (variable 1) (number (pos 0)))
+        (next (item 1 (assign 0 (plus 0 one))) done) (next (item 2 (send (variable 0) 0)) done)) }
+{
+    let test = is_positive(alloc)?;
+    let counting = CoreStmt::Item {
+        id: 1,
+        item: count(alloc)?,
+    };
+    let sending = CoreStmt::Item {
+        id: 2,
+        item: Item::Send(CoreExpr::Var(0), 0),
+    };
+    Ok(CoreStmt::If {
+        id: 0,
+        test,
+        yes: single(alloc, counting)?,
+        no: single(alloc, sending)?,
+    })
+}
+
+/// A body of the examples as code has it: `receive x from s;` and then, in a block that starts before 15,
+/// `if x > 0 { n := n + 1; } else { send n to o; } send 5 to o;`.
+pub fn example_body(alloc: Global) -> Result<Body, NoMemory>
+    ensures { IfOk result (λ b. plain_body b ≡ alarm_body) }
+{
+    let receiving = CoreStmt::Item {
+        id: 0,
+        item: Item::Receive(1, 0),
+    };
+    let sending = CoreStmt::Item {
+        id: 3,
+        item: Item::Send(CoreExpr::Number(5), 0),
+    };
+    let timed = CoreStmt::Do {
+        id: 1,
+        after: None,
+        before: Some(15),
+        within: None,
+        body: pair(alloc, count_or_send(alloc)?, sending)?,
+    };
+    pair(alloc, receiving, timed)
+}
+
+/// What bodies do, worked out: events in order, arithmetic at its edges, loops, arrays and copies.
+pub fn meaning_examples()
+    ensures counter { exec counter_body counter_vars (memory (pos 3 ∷ pos 0 ∷ []) counter_streams) ≡
+        record {
+          memory = memory (pos 4 ∷ pos 5 ∷ []) ((pos 6 ∷ []) ∷ []);
+          events = event Receive 0 (pos 5) ∷ event Send 0 (pos 5) ∷ [];
+        } }
+    ensures edges { exec edge_body edge_vars (memory (pos 0 ∷ pos 0 ∷ pos 0 ∷ []) ([] ∷ [])) ≡
+        record {
+          memory = memory (pos 0 ∷ pos 0 ∷ pos 0 ∷ []) ([] ∷ []);
+          events = event Send 0 (pos 0) ∷ event Send 0 (negsuc 9223372036854775807)
+              ∷ event Send 0 (pos 0) ∷ event Send 0 (pos 0)
+              ∷ event Receive 0 (pos 0) ∷ event Send 0 (pos 0) ∷ [];
+        } }
+
+    // Each turn of a `for` sets its variable, and what the body assigns to it changes no number of turns.
+    ensures for_turns { exec for_body loop_vars (memory (replicate 6 (pos 0)) []) ≡
+        quiet (memory (pos 3 ∷ pos 7 ∷ pos 0 ∷ pos 0 ∷ pos 0 ∷ pos 0 ∷ []) []) }
+    ensures while_holds { exec (while_body 5) loop_vars (memory (pos 0 ∷ []) []) ≡ quiet (memory (pos 12 ∷ []) []) }
+    ensures while_limit { exec (while_body 2) loop_vars (memory (pos 0 ∷ []) []) ≡ quiet (memory (pos 8 ∷ []) []) }
+    ensures while_not { exec (while_body 2) loop_vars (memory (pos 10 ∷ []) []) ≡ quiet (memory (pos 10 ∷ []) []) }
+    ensures arrays { exec array_body loop_vars (memory (pos 1 ∷ pos 2 ∷ replicate 4 (pos 0)) []) ≡
+        quiet (memory (pos 1 ∷ pos 2 ∷ pos 8 ∷ pos 7 ∷ pos 8 ∷ pos 7 ∷ []) []) }
+{}
+
+/// What frames show, worked out: first values, windows, values that go on from frame to frame, and states.
+pub fn frame_examples()
+    ensures first_values { start_cells primed_vars (declared_state primed_vars) ≡ pos 4 ∷ pos 0 ∷ pos 0 ∷ pos 0 ∷ [] }
+    ensures counter_0 { frame_of counter counter_streams 0 ≡
+        record { events = taken (pos 5) 0 10 ∷ sent (pos 5) 0 10 ∷ []; state = pos 1 ∷ [] } }
+    ensures counter_1 { frame_of counter counter_streams 1 ≡
+        record { events = taken (pos 6) 0 10 ∷ sent (pos 6) 0 10 ∷ []; state = pos 2 ∷ [] } }
+    ensures counter_2 { frame_of counter counter_streams 2 ≡
+        record { events = taken (pos 0) 0 10 ∷ sent (pos 0) 0 10 ∷ []; state = pos 3 ∷ [] } }
+
+    // `start before` binds the first event of its block in each frame anew.
+    ensures alarm_0 { frame_of alarm ((pos 1 ∷ pos 0 ∷ []) ∷ []) 0 ≡
+        record { events = taken (pos 1) 0 20 ∷ sent (pos 5) 0 15 ∷ []; state = pos 1 ∷ [] } }
+    ensures alarm_1 { frame_of alarm ((pos 1 ∷ pos 0 ∷ []) ∷ []) 1 ≡
+        record { events = taken (pos 0) 0 20 ∷ sent (pos 1) 0 15 ∷ sent (pos 5) 0 20 ∷ []; state = pos 1 ∷ [] } }
+
+    // Blocks in blocks, in a frame with the deadline 30.
+    ensures nested { (shown 30 counter_vars (exec nested_body counter_vars (memory [] []))).events ≡
+        sent (pos 0) 0 30 ∷ sent (pos 1) 3 9 ∷ sent (pos 2) 5 12 ∷ sent (pos 3) 5 15 ∷ [] }
+    ensures shared_first { (shown 30 counter_vars (exec shared_first_body counter_vars (memory [] []))).events ≡
+        sent (pos 1) 0 9 ∷ sent (pos 2) 0 30 ∷ [] }
+{}
+
+/// A trace that meets its program, and traces that don't.
+pub fn trace_examples()
+    ensures meets { MeetsCounter (passed_on 3 (pos 5) ++ counted 8 9) }
+    ensures other_value { ¬ (MeetsCounter (passed_on 3 (pos 6) ++ counted 8 9)) }
+    ensures late_event { ¬ (MeetsCounter (passed_on 11 (pos 5) ++ counted 12 13)) }
+    ensures no_event { ¬ (MeetsCounter []) }
+    ensures no_end { ¬ (MeetsCounter (passed_on 3 (pos 5) ++ entry 8 first ∷ [])) }
+    ensures same_time { ¬ (MeetsCounter (passed_on 3 (pos 5) ++ counted 3 9)) }
+{}

@@ -1,0 +1,10 @@
+pub mod Count
+pub mod File
+pub mod Load
+pub mod MemShelf
+pub mod MemSink
+pub mod Pieces
+pub mod Reach
+pub mod Shelf
+pub mod Taken
+pub mod Told

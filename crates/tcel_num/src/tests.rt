@@ -1,0 +1,49 @@
+use crate::{Name, add, div, mul, neg, rem, sub};
+use std::test::Fail;
+
+#[test]
+fn arithmetic_wraps(rt: HostRuntime) {
+    let (least, greatest) = (i64::MIN, i64::MAX);
+    assert_eq!(rt; add(greatest, 1), least);
+    assert_eq!(rt; sub(least, 1), greatest);
+    assert_eq!(rt; mul(greatest, 2), -2);
+    assert_eq!(rt; neg(least), least);
+    assert_eq!(rt;
+        [div(7, -2), div(-7, 2), div(4, 0), div(least, -1)],
+        [-3, -3, 0, least]
+    );
+    assert_eq!(rt;
+        [rem(7, -2), rem(-7, 2), rem(4, 0), rem(least, -1)],
+        [1, -1, 0, 0]
+    );
+}
+
+#[test]
+fn names_are_words_that_are_not_reserved(rt: HostRuntime) -> Result<(), Fail> {
+    let long = [b'a'; 33];
+    for good in [b"x".as_slice(), b"_9", b"Task", b"whiles", &long[..32]] {
+        let name = Name::new(good).ok_or("a name")?;
+        assert_eq!(rt; name.bytes(), good);
+    }
+    for bad in [
+        b"".as_slice(),
+        b"9a",
+        b"a-b",
+        b"\xc3\xa4",
+        b"while",
+        b"not",
+        &long,
+    ] {
+        assert!(rt; Name::new(bad).is_none());
+    }
+    Ok(())
+}
+
+#[test]
+fn names_are_ordered_by_bytes(rt: HostRuntime) -> Result<(), Fail> {
+    let short = Name::new(b"ab").ok_or("a name")?;
+    let long = Name::new(b"abc").ok_or("a name")?;
+    assert!(rt; short < long);
+    assert_eq!(rt; short, short.clone()?);
+    Ok(())
+}

@@ -1,0 +1,16 @@
+-- What code costs.
+use Rattle.std.specs.Prelude.{ℕ, List, sum_by}
+use Rattle.tcel_core.specs.declared.var.Var.{Var}
+use Rattle.tcel_core.specs.Language.{Expr}
+use Rattle.tcel_image.specs.declared.costs.Costs.{Costs}
+use Rattle.tcel_image.specs.declared.image.Line.{Line}
+use Rattle.tcel_image.specs.Instructions.{cycles}
+use Rattle.tcel_tool.specs.Code.{expr_code}
+
+-- the cycles of code, one instruction after another
+abbrev pub code_cycles : Costs → List Line → ℕ
+code_cycles costs code = sum_by (λ (line : Line). cycles costs line.instr) code
+
+-- the cycles of an expression's code
+abbrev pub expr_cycles : Costs → List Var → Expr → ℕ
+expr_cycles costs vars e = code_cycles costs (expr_code e vars 0)

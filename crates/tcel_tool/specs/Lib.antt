@@ -1,0 +1,9 @@
+pub mod Walks
+pub mod Costs
+pub mod Code
+pub mod WholePlan
+pub mod Layout
+pub mod Hyperperiod
+pub mod PlainTree
+pub mod CanonicalText
+pub mod Examples

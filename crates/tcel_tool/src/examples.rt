@@ -1,0 +1,22 @@
+ghost use Rattle.std.specs.Prelude.{◌≡◌, codes};
+ghost use Rattle.tcel_image.specs.Examples.{echo, unit_costs};
+ghost use Rattle.tcel_tool.specs.CanonicalText.{text_of};
+ghost use Rattle.tcel_tool.specs.Examples.{echo_tree, branching_vars, branching_body};
+ghost use Rattle.tcel_tool.specs.Layout.{image_of};
+ghost use Rattle.tcel_tool.specs.PlainTree.{set_of, IsPlain};
+ghost use Rattle.tcel_tool.specs.Walks.{Walks, IsTotal};
+
+/// The image of a program (docs/machine.md).
+pub fn layout_examples()
+    ensures echo { image_of (set_of echo_tree) unit_costs ≡ echo }
+{}
+
+/// The canonical text of a program (docs/language.md).
+pub fn text_examples()
+    ensures echo { text_of echo_tree ≡ codes "task t priority 1 {\n  input s;\n  output o;\n  state int n;\n  local int x;\n  every 10 {\n    receive x from s;\n    send x to o;\n    n := n + 1;\n  }\n}\n" }
+{}
+
+/// What code costs (docs/analysis.md).
+pub fn cost_examples()
+    ensures branching { IsTotal (Walks branching_body branching_vars unit_costs) 0 15 }
+{}
