@@ -1,17 +1,17 @@
 -- The first flaw of a whole from the first flaws of its parts.
-use Rattle.std.proofs.Common.{◌≡◌, ℕ, ◌+◌, ◌<◌, ◌≤◌, Bool, true, false, ◌&&◌, ◌==◌, ◌⊎◌, inl, inr, ⊎_elim, List, length, get_or, take, Option, Some, None, refl, ap, sym, ◌∙◌, subst, arith}
+use Rattle.std.proofs.Common.{◌≡◌, ℕ, ◌+◌, ◌<◌, ◌≤◌, Bool, true, false, ⊎_elim, List, length, get_or, take, Option, Some, None, refl, ap, sym, ◌∙◌, subst, arith}
 use Rattle.std.specs.List.{slice_get}
 use Rattle.std.specs.Option.{option_map_or}
 use Rattle.std.proofs.lemmas.Bool.{false≢true, and_right, cases_lt}
 use Rattle.std.proofs.lemmas.Option.{slice_get-get_or, slice_get_past, slice_get_read}
 use Rattle.tcel_image.specs.declared.flaw.Flaw.{Flaw}
 use Rattle.tcel_image.specs.declared.flaw.FlawKind.{FlawKind}
-use Rattle.tcel_image.specs.declared.flaw.FlawKind.TheVariants.{BadPeriod, SameName, JumpOut, BadCell, BadPort, BadDepth, FallsOff}
+use Rattle.tcel_image.specs.declared.flaw.FlawKind.TheVariants.{BadPeriod, SameName}
 use Rattle.tcel_image.specs.declared.image.Image.{Image}
 use Rattle.tcel_image.specs.declared.image.ImageTask.{ImageTask}
 use Rattle.tcel_image.specs.declared.image.Line.{Line}
-use Rattle.tcel_image.specs.Validity.{has_bad_period, has_same_name, line_has, task_has, has_flaw, kind_number, in_code, Precedes, IsValid, IsFirstFlaw}
-use Rattle.tcel_verify.specs.First.{IsFirstKind, head_has, code_has, IsFirstInCode, FirstInCode, IsFirstInTask, FirstInTask, FirstOfImage}
+use Rattle.tcel_image.specs.Validity.{line_has, task_has, has_flaw, kind_number, in_code, IsValid}
+use Rattle.tcel_verify.specs.First.{IsFirstKind, head_has, code_has, FirstInCode, FirstInTask}
 
 -- ---- code
 

@@ -1,12 +1,12 @@
 -- The first flaw of a line, of a task's code and of a task.
-use Rattle.std.specs.Prelude.{◌≡◌, ℕ, ◌<◌, Bool, false, true, ◌&&◌, ◌==◌, List, slice_get, Option, Some, None}
+use Rattle.std.specs.Prelude.{◌≡◌, ℕ, ◌<◌, Bool, false, true, List, slice_get, Option, Some, None}
 use Rattle.std.specs.Option.{option_map_or}
 use Rattle.tcel_image.specs.declared.flaw.Flaw.{Flaw}
 use Rattle.tcel_image.specs.declared.flaw.FlawKind.{FlawKind}
 use Rattle.tcel_image.specs.declared.flaw.FlawKind.TheVariants.{BadPeriod, SameName}
 use Rattle.tcel_image.specs.declared.image.Image.{Image}
 use Rattle.tcel_image.specs.declared.image.ImageTask.{ImageTask}
-use Rattle.tcel_image.specs.Validity.{has_bad_period, has_same_name, line_has, task_has, kind_number, in_code, Precedes, IsValid, IsFirstFlaw}
+use Rattle.tcel_image.specs.Validity.{has_bad_period, has_same_name, line_has, task_has, kind_number, Precedes, IsValid, IsFirstFlaw}
 
 -- of all kinds none passes the test, or this one, and none that comes before it
 abbrev pub IsFirstKind : (FlawKind → Bool) → Option FlawKind → Type 0

@@ -69,13 +69,7 @@ fn pops(instr: Instr) -> u32
     match instr {
         Instr::Put(_) | Instr::GetAt(..) | Instr::Branch(_) | Instr::Send(_) => 1,
         Instr::PutAt(..) => 2,
-        Instr::Arith(op) => {
-            if is_unary(op) {
-                1
-            } else {
-                2
-            }
-        }
+        Instr::Arith(op) => { if is_unary(op) { 1 } else { 2 } }
         _ => 0,
     }
 }

@@ -63,7 +63,9 @@ fn has_twice(task: &ImageTask) -> bool
     let inputs = task.inputs.as_slice();
     let outputs = task.outputs.as_slice();
     let states = task.states.as_slice();
-    stands_again(inputs, outputs, states) || stands_again(outputs, &[], states) || state_again(states)
+    stands_again(inputs, outputs, states)
+        || stands_again(outputs, &[], states)
+        || state_again(states)
 }
 
 /// Whether the task has an earlier task's name, or two names within it are one.
