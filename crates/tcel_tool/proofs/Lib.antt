@@ -1,1 +1,13 @@
 pub mod WorkedExamples
+pub mod Ahead
+pub mod ExprRuns
+pub mod BodyRuns
+pub mod ServedAlone
+pub mod Progress
+pub mod TaskMeets
+pub mod SetRuns
+pub mod SetMeets
+pub mod StateWords
+pub mod Straight
+pub mod WholeFrames
+pub mod PlainMeets
