@@ -7,8 +7,8 @@ use Rattle.std.proofs.lemmas.Option.{slice_get_within, none-some, same_Some}
 use Rattle.tcel_num.specs.Entry.{Entry, What, send, first, end}
 use Rattle.tcel_num.specs.Plan.{Plan, frame}
 use Rattle.tcel_num.specs.Schedule.{served}
-use Rattle.tcel_core.specs.Examples.{counter, counter_streams, counter_plans, entry, passed_on, counted}
-use Rattle.tcel_core.specs.Meets.{Keeps, Meets, IsInTime, entries_of}
+use Rattle.tcel_core.specs.Examples.{MeetsCounter, counter, counter_streams, counter_plans, entry, passed_on, counted}
+use Rattle.tcel_core.specs.Meets.{Keeps, IsInTime, entries_of}
 use Rattle.tcel_core.specs.Promises.{Behavior, Promise, behavior_of, first_promise, end_promise, frame_promises, promises}
 
 -- what the counter is to do
@@ -87,7 +87,7 @@ known (suc (suc zero)) d h = lit< tt
 known (suc (suc (suc zero))) d h = lit< tt
 known (suc (suc (suc (suc k)))) d h = absurd (omega arith)
 
-pub meets : Meets (counter ∷ []) counter_plans (counter_streams ∷ []) 10 counter_trace
+pub meets : MeetsCounter counter_trace
 meets = record {
   rises = rises 1 3 8 9 (lit< tt) (lit< tt) (lit< tt);
   known = known;
@@ -100,20 +100,20 @@ what_of_told : Option (ℕ × What) → What
 what_of_told None = first
 what_of_told (Some shown) = shown.1
 
-pub other_value : Meets (counter ∷ []) counter_plans (counter_streams ∷ []) 10 (passed_on 3 (pos 6) ++ counted 8 9) → ⊥
+pub other_value : MeetsCounter (passed_on 3 (pos 6) ++ counted 8 9) → ⊥
 unfolding what_of_told
 other_value m =
     let e : send 0 (pos 6) ≡ send 0 (pos 5) = ap (λ all. what_of_told (slice_get all 1)) (m.keeps 0 behavior refl).follows in
     cc
 
-pub late_event : Meets (counter ∷ []) counter_plans (counter_streams ∷ []) 10 (passed_on 11 (pos 5) ++ counted 12 13) → ⊥
+pub late_event : MeetsCounter (passed_on 11 (pos 5) ++ counted 12 13) → ⊥
 late_event m = let h = (m.keeps 0 behavior refl).in_time.1.0.not_late in omega (arith, h)
 
-pub no_event : Meets (counter ∷ []) counter_plans (counter_streams ∷ []) 10 [] → ⊥
+pub no_event : MeetsCounter [] → ⊥
 no_event m = let h = (m.keeps 0 behavior refl).complete 0 0 _ 10 refl refl (lit≤ tt) in omega (arith, h)
 
-pub no_end : Meets (counter ∷ []) counter_plans (counter_streams ∷ []) 10 (passed_on 3 (pos 5) ++ entry 8 first ∷ []) → ⊥
+pub no_end : MeetsCounter (passed_on 3 (pos 5) ++ entry 8 first ∷ []) → ⊥
 no_end m = let h = m.ended 0 0 behavior _ refl refl (lit≤ tt) in omega (arith, h)
 
-pub same_time : Meets (counter ∷ []) counter_plans (counter_streams ∷ []) 10 (passed_on 3 (pos 5) ++ counted 3 9) → ⊥
+pub same_time : MeetsCounter (passed_on 3 (pos 5) ++ counted 3 9) → ⊥
 same_time m = let h = m.rises 1 (lit< tt) in omega (arith, h)

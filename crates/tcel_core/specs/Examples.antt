@@ -4,10 +4,14 @@ use Rattle.tcel_num.specs.declared.op.Op.TheVariants.{Add, Sub, Div, Rem, Neg, L
 use Rattle.tcel_num.specs.Entry as trace
 use Rattle.tcel_num.specs.Entry.{Entry}
 use Rattle.tcel_num.specs.Plan.{Plan, frame}
+use Rattle.tcel_core.specs.declared.event.Event.{Event}
+use Rattle.tcel_core.specs.declared.event.EventKind.TheVariants.{Receive, Send}
 use Rattle.tcel_core.specs.declared.var.Keep.{Keep}
 use Rattle.tcel_core.specs.declared.var.Var.{Var}
 use Rattle.tcel_core.specs.declared.var.VarKind.{VarKind}
 use Rattle.tcel_core.specs.Language.{Expr, number, variable, element, unary, binary, Window, Block, done, next, item, choice, timed, assign, assign_at, receive, send, for_loop, while_loop, copy, Task}
+use Rattle.tcel_core.specs.Meets.{Meets}
+use Rattle.tcel_core.specs.Outcome.{Memory}
 
 -- a scalar
 abbrev pub int_var : List ℕ → Keep → Var
@@ -20,6 +24,20 @@ array_var name keep n = record { name = Some name; kind = VarKind.Array n; keep 
 -- the clauses of a `do` block
 abbrev pub window : Option ℕ → Option ℕ → Option ℕ → Window
 window after before within = record { after = after; before = before; within = within }
+
+-- words and what each input has left
+abbrev pub memory : List ℤ → List (List ℤ) → Memory
+memory cells inputs = record { cells = cells; inputs = inputs }
+
+-- an event of input 0, with its window
+abbrev pub taken : ℤ → ℕ → ℕ → Event
+taken value earliest latest =
+    record { port = 0; kind = Receive; value = value; earliest = earliest; latest = latest }
+
+-- an event of output 0, with its window
+abbrev pub sent : ℤ → ℕ → ℕ → Event
+sent value earliest latest =
+    record { port = 0; kind = Send; value = value; earliest = earliest; latest = latest }
 
 -- a variable and what is added to it
 abbrev pub plus : ℕ → Expr → Expr
@@ -39,6 +57,12 @@ counter_body =
     next (item 0 (receive 1 0))
     (next (item 1 (send (variable 1) 0))
     (next (item 2 (assign 0 (plus 0 one))) done))
+
+-- a state n = 4, a state array of two and a local x
+abbrev pub primed_vars : List Var
+primed_vars =
+    record { name = Some (codes "n"); kind = VarKind.Int; keep = Keep.State; first = pos 4 }
+    ∷ array_var (codes "a") Keep.State 2 ∷ int_var (codes "x") Keep.Local ∷ []
 
 -- each 10 ticks a value is passed on and counted
 abbrev pub counter : Task
@@ -159,6 +183,10 @@ counter_streams = (pos 5 ∷ pos 6 ∷ []) ∷ []
 -- the counter takes 9 cycles, and its events and mark 8 of them
 abbrev pub counter_plans : List Plan
 counter_plans = record { period = 10; total = 9; points = record { prefix = 8; bound = 10; name = frame } ∷ [] } ∷ []
+
+-- a trace of 10 ticks meets the counter's program
+abbrev pub MeetsCounter : List Entry → Type 0
+MeetsCounter trace = Meets (counter ∷ []) counter_plans (counter_streams ∷ []) 10 trace
 
 -- an entry of the one task's frame 0
 abbrev pub entry : ℕ → trace.What → Entry

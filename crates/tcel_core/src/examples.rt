@@ -1,10 +1,9 @@
-ghost use Rattle.std.specs.Prelude.{◌≡◌, [], ◌∷◌, ◌++◌, pos, negsuc, ℤ, ℕ, IfOk};
-ghost use Rattle.tcel_core.specs.Examples.{counter, counter_vars, counter_body, alarm, alarm_body, edge_vars, edge_body, loop_vars, for_body, while_body, array_body, nested_body, shared_first_body, counter_streams, counter_plans, entry, passed_on, counted, plus, one};
+ghost use Rattle.std.specs.Prelude.{◌≡◌, [], ◌∷◌, ◌++◌, pos, negsuc, ℤ, ℕ, IfOk, replicate};
+ghost use Rattle.tcel_core.specs.Examples.{MeetsCounter, alarm, alarm_body, array_body, counted, counter, counter_body, counter_streams, counter_vars, edge_body, edge_vars, entry, for_body, loop_vars, memory, nested_body, one, passed_on, plus, primed_vars, sent, shared_first_body, taken, while_body};
 ghost use Rattle.tcel_core.specs.Language.{next, done, item, choice, send, assign, number, variable, binary};
 ghost use Rattle.tcel_core.specs.Meaning.{exec};
 ghost use Rattle.tcel_core.specs.Outcome.{event, quiet};
-ghost use Rattle.tcel_core.specs.Frames.{frame_of, shown};
-ghost use Rattle.tcel_core.specs.Meets.{Meets};
+ghost use Rattle.tcel_core.specs.Frames.{declared_state, frame_of, shown, start_cells};
 ghost use Rattle.tcel_core.specs.Plain.{plain_expr, plain_stmt, plain_body};
 ghost use Rattle.tcel_num.specs.Entry.{first};
 ghost use Rattle.tcel_core.specs.declared.event.EventKind.TheVariants.{Receive, Send};
@@ -99,74 +98,58 @@ pub fn example_body(alloc: Global) -> Result<Body, NoMemory>
 
 /// What bodies do, worked out: events in order, arithmetic at its edges, loops, arrays and copies.
 pub fn meaning_examples()
-    ensures counter { exec counter_body counter_vars (record { cells = pos 3 ∷ pos 0 ∷ []; inputs = counter_streams }) ≡
+    ensures counter { exec counter_body counter_vars (memory (pos 3 ∷ pos 0 ∷ []) counter_streams) ≡
         record {
-          memory = record { cells = pos 4 ∷ pos 5 ∷ []; inputs = (pos 6 ∷ []) ∷ [] };
+          memory = memory (pos 4 ∷ pos 5 ∷ []) ((pos 6 ∷ []) ∷ []);
           events = event Receive 0 (pos 5) ∷ event Send 0 (pos 5) ∷ [];
         } }
-    ensures edges { exec edge_body edge_vars (record { cells = pos 0 ∷ pos 0 ∷ pos 0 ∷ []; inputs = [] ∷ [] }) ≡
+    ensures edges { exec edge_body edge_vars (memory (pos 0 ∷ pos 0 ∷ pos 0 ∷ []) ([] ∷ [])) ≡
         record {
-          memory = record { cells = pos 0 ∷ pos 0 ∷ pos 0 ∷ []; inputs = [] ∷ [] };
-          events = event Send 0 (pos 0) ∷ event Send 0 (negsuc 9223372036854775807) ∷ event Send 0 (pos 0)
-              ∷ event Send 0 (pos 0) ∷ event Receive 0 (pos 0) ∷ event Send 0 (pos 0) ∷ [];
+          memory = memory (pos 0 ∷ pos 0 ∷ pos 0 ∷ []) ([] ∷ []);
+          events = event Send 0 (pos 0) ∷ event Send 0 (negsuc 9223372036854775807)
+              ∷ event Send 0 (pos 0) ∷ event Send 0 (pos 0)
+              ∷ event Receive 0 (pos 0) ∷ event Send 0 (pos 0) ∷ [];
         } }
 
-    // The variable of a `for` is set at each turn, and what the body assigns to it changes no number of turns.
-    ensures for_turns { exec for_body loop_vars (record { cells = pos 0 ∷ pos 0 ∷ pos 0 ∷ pos 0 ∷ pos 0 ∷ pos 0 ∷ []; inputs = [] }) ≡
-        quiet (record { cells = pos 3 ∷ pos 7 ∷ pos 0 ∷ pos 0 ∷ pos 0 ∷ pos 0 ∷ []; inputs = [] }) }
-    ensures while_holds { exec (while_body 5) loop_vars (record { cells = pos 0 ∷ []; inputs = [] }) ≡
-        quiet (record { cells = pos 12 ∷ []; inputs = [] }) }
-    ensures while_limit { exec (while_body 2) loop_vars (record { cells = pos 0 ∷ []; inputs = [] }) ≡
-        quiet (record { cells = pos 8 ∷ []; inputs = [] }) }
-    ensures while_not { exec (while_body 2) loop_vars (record { cells = pos 10 ∷ []; inputs = [] }) ≡
-        quiet (record { cells = pos 10 ∷ []; inputs = [] }) }
-    ensures arrays { exec array_body loop_vars (record { cells = pos 1 ∷ pos 2 ∷ pos 0 ∷ pos 0 ∷ pos 0 ∷ pos 0 ∷ []; inputs = [] }) ≡
-        quiet (record { cells = pos 1 ∷ pos 2 ∷ pos 8 ∷ pos 7 ∷ pos 8 ∷ pos 7 ∷ []; inputs = [] }) }
+    // Each turn of a `for` sets its variable, and what the body assigns to it changes no number of turns.
+    ensures for_turns { exec for_body loop_vars (memory (replicate 6 (pos 0)) []) ≡
+        quiet (memory (pos 3 ∷ pos 7 ∷ pos 0 ∷ pos 0 ∷ pos 0 ∷ pos 0 ∷ []) []) }
+    ensures while_holds { exec (while_body 5) loop_vars (memory (pos 0 ∷ []) []) ≡ quiet (memory (pos 12 ∷ []) []) }
+    ensures while_limit { exec (while_body 2) loop_vars (memory (pos 0 ∷ []) []) ≡ quiet (memory (pos 8 ∷ []) []) }
+    ensures while_not { exec (while_body 2) loop_vars (memory (pos 10 ∷ []) []) ≡ quiet (memory (pos 10 ∷ []) []) }
+    ensures arrays { exec array_body loop_vars (memory (pos 1 ∷ pos 2 ∷ replicate 4 (pos 0)) []) ≡
+        quiet (memory (pos 1 ∷ pos 2 ∷ pos 8 ∷ pos 7 ∷ pos 8 ∷ pos 7 ∷ []) []) }
 {}
 
-/// What frames show, worked out: windows, values that go on from frame to frame, and states.
+/// What frames show, worked out: first values, windows, values that go on from frame to frame, and states.
 pub fn frame_examples()
-    ensures counter_0 { frame_of counter counter_streams 0 ≡ record {
-      events = record { port = 0; kind = Receive; value = pos 5; earliest = 0; latest = 10 }
-          ∷ record { port = 0; kind = Send; value = pos 5; earliest = 0; latest = 10 } ∷ [];
-      state = pos 1 ∷ [];
-    } }
-    ensures counter_1 { frame_of counter counter_streams 1 ≡ record {
-      events = record { port = 0; kind = Receive; value = pos 6; earliest = 0; latest = 10 }
-          ∷ record { port = 0; kind = Send; value = pos 6; earliest = 0; latest = 10 } ∷ [];
-      state = pos 2 ∷ [];
-    } }
+    ensures first_values { start_cells primed_vars (declared_state primed_vars) ≡ pos 4 ∷ pos 0 ∷ pos 0 ∷ pos 0 ∷ [] }
+    ensures counter_0 { frame_of counter counter_streams 0 ≡
+        record { events = taken (pos 5) 0 10 ∷ sent (pos 5) 0 10 ∷ []; state = pos 1 ∷ [] } }
+    ensures counter_1 { frame_of counter counter_streams 1 ≡
+        record { events = taken (pos 6) 0 10 ∷ sent (pos 6) 0 10 ∷ []; state = pos 2 ∷ [] } }
+    ensures counter_2 { frame_of counter counter_streams 2 ≡
+        record { events = taken (pos 0) 0 10 ∷ sent (pos 0) 0 10 ∷ []; state = pos 3 ∷ [] } }
 
     // `start before` binds the first event of its block in each frame anew.
-    ensures alarm_0 { frame_of alarm ((pos 1 ∷ pos 0 ∷ []) ∷ []) 0 ≡ record {
-      events = record { port = 0; kind = Receive; value = pos 1; earliest = 0; latest = 20 }
-          ∷ record { port = 0; kind = Send; value = pos 5; earliest = 0; latest = 15 } ∷ [];
-      state = pos 1 ∷ [];
-    } }
-    ensures alarm_1 { frame_of alarm ((pos 1 ∷ pos 0 ∷ []) ∷ []) 1 ≡ record {
-      events = record { port = 0; kind = Receive; value = pos 0; earliest = 0; latest = 20 }
-          ∷ record { port = 0; kind = Send; value = pos 1; earliest = 0; latest = 15 }
-          ∷ record { port = 0; kind = Send; value = pos 5; earliest = 0; latest = 20 } ∷ [];
-      state = pos 1 ∷ [];
-    } }
+    ensures alarm_0 { frame_of alarm ((pos 1 ∷ pos 0 ∷ []) ∷ []) 0 ≡
+        record { events = taken (pos 1) 0 20 ∷ sent (pos 5) 0 15 ∷ []; state = pos 1 ∷ [] } }
+    ensures alarm_1 { frame_of alarm ((pos 1 ∷ pos 0 ∷ []) ∷ []) 1 ≡
+        record { events = taken (pos 0) 0 20 ∷ sent (pos 1) 0 15 ∷ sent (pos 5) 0 20 ∷ []; state = pos 1 ∷ [] } }
 
     // Blocks in blocks, in a frame with the deadline 30.
-    ensures nested { (shown 30 counter_vars (exec nested_body counter_vars (record { cells = pos 0 ∷ pos 0 ∷ []; inputs = [] }))).events ≡
-        record { port = 0; kind = Send; value = pos 0; earliest = 0; latest = 30 }
-        ∷ record { port = 0; kind = Send; value = pos 1; earliest = 3; latest = 9 }
-        ∷ record { port = 0; kind = Send; value = pos 2; earliest = 5; latest = 12 }
-        ∷ record { port = 0; kind = Send; value = pos 3; earliest = 5; latest = 15 } ∷ [] }
-    ensures shared_first { (shown 30 counter_vars (exec shared_first_body counter_vars (record { cells = pos 0 ∷ pos 0 ∷ []; inputs = [] }))).events ≡
-        record { port = 0; kind = Send; value = pos 1; earliest = 0; latest = 9 }
-        ∷ record { port = 0; kind = Send; value = pos 2; earliest = 0; latest = 30 } ∷ [] }
+    ensures nested { (shown 30 counter_vars (exec nested_body counter_vars (memory [] []))).events ≡
+        sent (pos 0) 0 30 ∷ sent (pos 1) 3 9 ∷ sent (pos 2) 5 12 ∷ sent (pos 3) 5 15 ∷ [] }
+    ensures shared_first { (shown 30 counter_vars (exec shared_first_body counter_vars (memory [] []))).events ≡
+        sent (pos 1) 0 9 ∷ sent (pos 2) 0 30 ∷ [] }
 {}
 
 /// A trace that meets its program, and traces that don't.
 pub fn trace_examples()
-    ensures meets { Meets (counter ∷ []) counter_plans (counter_streams ∷ []) 10 (passed_on 3 (pos 5) ++ counted 8 9) }
-    ensures other_value { ¬ (Meets (counter ∷ []) counter_plans (counter_streams ∷ []) 10 (passed_on 3 (pos 6) ++ counted 8 9)) }
-    ensures late_event { ¬ (Meets (counter ∷ []) counter_plans (counter_streams ∷ []) 10 (passed_on 11 (pos 5) ++ counted 12 13)) }
-    ensures no_event { ¬ (Meets (counter ∷ []) counter_plans (counter_streams ∷ []) 10 []) }
-    ensures no_end { ¬ (Meets (counter ∷ []) counter_plans (counter_streams ∷ []) 10 (passed_on 3 (pos 5) ++ entry 8 first ∷ [])) }
-    ensures same_time { ¬ (Meets (counter ∷ []) counter_plans (counter_streams ∷ []) 10 (passed_on 3 (pos 5) ++ counted 3 9)) }
+    ensures meets { MeetsCounter (passed_on 3 (pos 5) ++ counted 8 9) }
+    ensures other_value { ¬ (MeetsCounter (passed_on 3 (pos 6) ++ counted 8 9)) }
+    ensures late_event { ¬ (MeetsCounter (passed_on 11 (pos 5) ++ counted 12 13)) }
+    ensures no_event { ¬ (MeetsCounter []) }
+    ensures no_end { ¬ (MeetsCounter (passed_on 3 (pos 5) ++ entry 8 first ∷ [])) }
+    ensures same_time { ¬ (MeetsCounter (passed_on 3 (pos 5) ++ counted 3 9)) }
 {}

@@ -1,19 +1,19 @@
 -- Numbers, lists and names as fields.
-use Rattle.std.proofs.Common.{◌≡◌, ℕ, ℤ, pos, negsuc, zero, suc, ◌+◌, ◌-◌, ◌^◌, ◌<◌, ◌≤◌, Bool, true, false, cond, ltb, leb, ◌&&◌, List, [], ◌∷◌, ◌++◌, length, get_or, take, drop, Result, Ok, Err, refl, sym, ap, subst, ◌∙◌, append_assoc, arith, inl, inr, All}
+use Rattle.std.proofs.Common.{◌≡◌, ℕ, ℤ, pos, negsuc, zero, suc, ◌+◌, ◌^◌, ◌<◌, ◌≤◌, Bool, true, false, cond, ltb, leb, List, [], ◌∷◌, ◌++◌, length, take, drop, Result, Ok, Err, refl, sym, ap, subst, ◌∙◌, append_assoc, arith, inl, inr, All}
 use Rattle.std.specs.Prelude.{FitsSigned}
 use Rattle.std.specs.List.{flat_map, AllByRecursion}
 use Rattle.std.specs.Int.{Width, w16, w32, w64, byte_len, from_le_bytes, to_le_bytes, cast_signed, cast_unsigned, IsInRange, is_in_range}
-use Rattle.std.proofs.lemmas.Bool.{cases_lt, ltb-false, le-ltb, leb-true, le-leb, and_parts, and_from}
+use Rattle.std.proofs.lemmas.Bool.{cases_lt, ltb-false, le-ltb, leb-true, le-leb, and_parts, and_from, lt-ltb}
 use Rattle.std.proofs.lemmas.List.{take_at, drop_at, take-append-drop, length-append, length-take, get_or-drop, get_or-take, get_or_past, append-nil}
 use Rattle.std.proofs.lemmas.List.Elements.{All-from_recursion, recursion_from_All}
 use Rattle.std.proofs.lemmas.Nat.{le_bytes_2, le_bytes_4, le_bytes_8, from_le_bytes-to_le_bytes_2, from_le_bytes-to_le_bytes_4, from_le_bytes-to_le_bytes_8}
-use Rattle.std.proofs.lemmas.Int.{ints, to_z-of_z, of_z-to_z}
+use Rattle.std.proofs.lemmas.Int.{to_z-of_z, of_z-to_z}
 use Rattle.std.proofs.Math.Facts.{sfits_to_z, Fits-bits}
 use Rattle.tcel_image.specs.declared.fault.Fault.{Fault}
 use Rattle.tcel_image.specs.declared.fault.Fault.TheVariants as faults
 use Rattle.tcel_image.specs.Spelling.{number, value, byte}
 use Rattle.tcel_image.specs.Reading.{Reader, after, ◌>>=◌, done, number_at, byte_at, value_at, many_at}
-use Rattle.tcel_image.proofs.Readers.{IsBytes, Takes, Takes-then, Reads, bind_ok, given, given_value, given_rest, done_reads, bind_reads, as_reads}
+use Rattle.tcel_image.proofs.Readers.{IsBytes, Takes, Takes-then, Reads, bind_ok, given_value, given_rest, done_reads, bind_reads, as_reads, shorter, cut_after}
 
 pub IsBytes-drop : (n : ℕ) (bytes : List ℕ) → IsBytes bytes → IsBytes (drop n bytes)
 IsBytes-drop n bytes h i = rw get_or-drop (h (n + i))
@@ -68,9 +68,10 @@ number_takes w limit least greatest wide bytes n rest fits e =
     let long : byte_len w ≤ length bytes = ltb-false _ _ g.0 in
     let n-is : m ≡ n = given_value m n after_it rest h.1 in
     let rest-is : after_it ≡ rest = given_rest m n after_it rest h.1 in
-    let front : to_le_bytes w n ≡ take (byte_len w) bytes = rw (← n-is) (wide.back (take (byte_len w) bytes) (omega (arith, length-take (byte_len w) bytes)) (IsBytes-take (byte_len w) bytes fits)) in
-    (record { parts = rw (front, ← rest-is) (sym (take-append-drop (byte_len w) bytes)); rest_fits = rw (← rest-is) (IsBytes-drop (byte_len w) bytes fits) },
-     subst (IsInRange least greatest) n-is (range_true least greatest m h.0))
+    let front : to_le_bytes w n ≡ take (byte_len w) bytes = rw (← n-is) (wide.back (take (byte_len w) bytes) (omega (arith, length-take (byte_len w) bytes)) (IsBytes-take (byte_len w) bytes fits)) in (
+      record { parts = rw (front, ← rest-is) (sym (take-append-drop (byte_len w) bytes)); rest_fits = rw (← rest-is) (IsBytes-drop (byte_len w) bytes fits) },
+      subst (IsInRange least greatest) n-is (range_true least greatest m h.0),
+    )
 
 number_again : (w : Width) (limit least greatest : ℕ) (wide : IsWide w limit) → greatest < limit → (n : ℕ) (rest : List ℕ) → IsInRange least greatest n
     → number_at w least greatest (number w n ++ rest) ≡ Ok (n, rest)
@@ -81,10 +82,17 @@ number_again w limit least greatest wide lt n rest fits =
     let below : n < limit = omega (arith, fits.1) in
     rw (long, take_at (to_le_bytes w n) rest (byte_len w) len, drop_at (to_le_bytes w n) rest (byte_len w) len, wide.again n below, true_range least greatest n fits) refl
 
+number_cut : (w : Width) (limit least greatest : ℕ) (wide : IsWide w limit) (n : ℕ) (front : List ℕ) (b : ℕ) (more : List ℕ) → number w n ≡ front ++ b ∷ more
+    → number_at w least greatest front ≡ Err faults.Cut
+unfolding number_at number
+number_cut w limit least greatest wide n front b more e = rw (lt-ltb (length front) (byte_len w) (omega (arith, shorter (to_le_bytes w n) front b more e, wide.len n))) refl
+
 pub number_reads : (w : Width) (limit least greatest : ℕ) → IsWide w limit → greatest < limit → Reads (number_at w least greatest) (number w) (IsInRange least greatest)
 number_reads w limit least greatest wide lt = record {
   takes = λ bytes n rest fits e. number_takes w limit least greatest wide bytes n rest fits e;
-  again = λ n rest fits. number_again w limit least greatest wide lt n rest fits }
+  again = λ n rest fits. number_again w limit least greatest wide lt n rest fits;
+  cut = λ n front b more fits e. number_cut w limit least greatest wide n front b more e;
+}
 
 -- one byte
 byte_takes : (least greatest : ℕ) (bytes : List ℕ) (n : ℕ) (rest : List ℕ) → IsBytes bytes → byte_at least greatest bytes ≡ Ok (n, rest) → Takes bytes (byte n) rest × IsInRange least greatest n
@@ -101,10 +109,17 @@ byte_again : (least greatest n : ℕ) (rest : List ℕ) → IsInRange least grea
 unfolding byte_at
 byte_again least greatest n rest fits = rw (true_range least greatest n fits) refl
 
+byte_cut : (least greatest n : ℕ) (front : List ℕ) (b : ℕ) (more : List ℕ) → byte n ≡ front ++ b ∷ more → byte_at least greatest front ≡ Err faults.Cut
+unfolding byte_at
+byte_cut least greatest n [] b more e = refl
+byte_cut least greatest n (c ∷ front) b more e = absurd (omega (arith, shorter (byte n) (c ∷ front) b more e))
+
 pub byte_reads : (least greatest : ℕ) → Reads (byte_at least greatest) byte (IsInRange least greatest)
 byte_reads least greatest = record {
   takes = λ bytes n rest fits e. byte_takes least greatest bytes n rest fits e;
-  again = λ n rest fits. byte_again least greatest n rest fits }
+  again = λ n rest fits. byte_again least greatest n rest fits;
+  cut = λ n front b more fits e. byte_cut least greatest n front b more e;
+}
 
 -- a signed number
 bits_below : (z : ℤ) → FitsSigned w64 z → cast_unsigned w64 z ≤ 18446744073709551615
@@ -116,7 +131,7 @@ unfolding value_at
 value_reads =
     as_reads value (FitsSigned w64)
     (bind_reads (number_reads w64 (2 ^ 64) 0 18446744073709551615 wide64 (omega arith)) (cast_unsigned w64) (λ n range. done_reads (cast_signed w64 n))
-      (λ n range z e. ap (cast_unsigned w64) e ∙ of_z-to_z w64 n (omega (arith, range.1))))
+    (λ n range z e. ap (cast_unsigned w64) e ∙ of_z-to_z w64 n (omega (arith, range.1))))
     (λ z h. sym (append-nil (value z)))
     (λ z h. subst (FitsSigned w64) (sym h.1) (sfits_to_z (Fits-bits 64 tt (omega (arith, h.0.1)))))
     (λ z h. ((omega arith, bits_below z h), sym (to_z-of_z w64 z h)))
@@ -150,11 +165,23 @@ many_again read spell Fits h (x ∷ xs) rest fits =
     ∙ ap (λ r. after r (λ first. many_at read (length xs) >>= λ others. done (first ∷ others))) (h.again x (flat_map spell xs ++ rest) fits.0)
     ∙ ap (λ r. after r (λ others. done (x ∷ others))) (many_again read spell Fits h xs rest fits.1)
 
+many_cut : {A : Type 0} (read : Reader A) (spell : A → List ℕ) (Fits : A → Type 0) → Reads read spell Fits → (xs : List A) (front : List ℕ) (b : ℕ) (more : List ℕ)
+    → AllByRecursion Fits xs → flat_map spell xs ≡ front ++ b ∷ more → many_at read (length xs) front ≡ Err faults.Cut
+unfolding many_at
+many_cut read spell Fits h [] front b more fits e = absurd (omega (arith, shorter [] front b more e))
+many_cut read spell Fits h (x ∷ xs) front b more fits e =
+    cut_after read (λ first. many_at read (length xs) >>= λ others. done (first ∷ others)) x (spell x) (flat_map spell xs) front b more e
+    (λ f c m q. h.cut x f c m fits.0 q) (λ rest. h.again x rest fits.0)
+    (λ f q. ap (λ r. after r (λ others. done (x ∷ others))) (many_cut read spell Fits h xs f b more fits.1 q))
+
 pub many_reads : {A : Type 0} {read : Reader A} {spell : A → List ℕ} {Fits : A → Type 0} → Reads read spell Fits → (n : ℕ)
     → Reads (many_at read n) (flat_map spell) (λ xs. (length xs ≡ n) × All Fits xs)
 many_reads {A} {read} {spell} {Fits} h n = record {
   takes = λ bytes xs rest fits e.
-    let t = many_takes read spell Fits h n bytes xs rest fits e in
-    (t.0, (t.1, All-from_recursion Fits xs t.2));
+      let t = many_takes read spell Fits h n bytes xs rest fits e in
+      (t.0, (t.1, All-from_recursion Fits xs t.2));
   again = λ xs rest fits.
-    subst (λ k. many_at read k (flat_map spell xs ++ rest) ≡ Ok (xs, rest)) fits.0 (many_again read spell Fits h xs rest (recursion_from_All Fits xs fits.1)) }
+      subst (λ k. many_at read k (flat_map spell xs ++ rest) ≡ Ok (xs, rest)) fits.0 (many_again read spell Fits h xs rest (recursion_from_All Fits xs fits.1));
+  cut = λ xs front b more fits e.
+      subst (λ k. many_at read k front ≡ Err faults.Cut) fits.0 (many_cut read spell Fits h xs front b more (recursion_from_All Fits xs fits.1) e);
+}

@@ -1,16 +1,14 @@
 -- States, tasks and images as fields, and what all of the bytes spell.
-use Rattle.std.proofs.Common.{◌≡◌, ℕ, ℤ, zero, suc, ◌+◌, ◌-◌, ◌^◌, ◌<◌, ◌≤◌, min, Bool, true, false, cond, eqb, List, [], ◌∷◌, ◌++◌, length, take, drop, Result, Ok, Err, refl, sym, ap, subst, ◌∙◌, arith, inl, inr, All, append_assoc, sum_by}
-use Rattle.std.specs.Prelude.{FitsSigned, nat_eq}
+use Rattle.std.proofs.Common.{◌≡◌, ℕ, zero, suc, ◌+◌, ◌-◌, ◌^◌, ◌≤◌, min, Bool, true, false, eqb, List, [], ◌∷◌, ◌++◌, length, take, drop, Result, Ok, Err, refl, sym, ap, subst, ◌∙◌, arith, All, append_assoc, inl, inr}
+use Rattle.std.specs.Prelude.{nat_eq}
 use Rattle.std.specs.List.{flat_map, AllByRecursion, starts_with}
-use Rattle.std.specs.Int.{w16, w32, w64, IsInRange}
+use Rattle.std.specs.Int.{w16, w32, IsInRange}
 use Rattle.std.specs.Cmp.Lexicographic.{pointwise}
 use Rattle.std.proofs.lemmas.Bool.{eqb-true, and_parts}
 use Rattle.std.proofs.lemmas.List.{append-nil, nil_from_length, take-append-drop}
 use Rattle.std.proofs.lemmas.List.Sums.{sum_by-cons}
 use Rattle.std.proofs.lemmas.List.Elements.{All-from_recursion, recursion_from_All}
-use Rattle.tcel_num.specs.Name.{IsName}
 use Rattle.tcel_image.specs.declared.costs.Costs.{Costs}
-use Rattle.tcel_image.specs.declared.costs.CostKey.{CostKey}
 use Rattle.tcel_image.specs.declared.costs.CostKey.TheVariants as keys
 use Rattle.tcel_image.specs.declared.fault.Fault.{Fault}
 use Rattle.tcel_image.specs.declared.fault.Fault.TheVariants as faults
@@ -19,10 +17,10 @@ use Rattle.tcel_image.specs.declared.image.ImageTask.{ImageTask}
 use Rattle.tcel_image.specs.declared.image.ImageState.{ImageState}
 use Rattle.tcel_image.specs.declared.image.StateKind.{StateKind}
 use Rattle.tcel_image.specs.declared.image.StateKind.TheVariants as kinds
-use Rattle.tcel_image.specs.Costs.{cost_of, CostsInRange, IsCost}
-use Rattle.tcel_image.specs.Spelling.{number, byte, value, name, names, kind_number, flag, state, states, code, task, costs, magic, spelling, most_words, state_words, NamesInRange, StateInRange, StatesInRange, CodeInRange, TaskInRange, InRange}
-use Rattle.tcel_image.specs.Reading.{Reader, after, ◌>>=◌, done, number_at, byte_at, value_at, many_at, name_at, kind_from, state_at, states_from, states_at, task_at, cost_at, costs_at, magic_at, image_at, ended}
-use Rattle.tcel_image.proofs.Readers.{IsBytes, Takes, Takes-then, Reads, given, given_value, given_rest, bind_ok, done_reads, bind_reads, as_reads}
+use Rattle.tcel_image.specs.Costs.{CostsInRange, IsCost}
+use Rattle.tcel_image.specs.Spelling.{number, byte, name, names, kind_number, flag, state, states, code, task, costs, magic, spelling, most_words, state_words, StateInRange, StatesInRange, TaskInRange, InRange}
+use Rattle.tcel_image.specs.Reading.{Reader, number_at, many_at, after, ◌>>=◌, done, kind_from, state_at, states_from, states_at, task_at, cost_at, costs_at, magic_at, image_at, ended}
+use Rattle.tcel_image.proofs.Readers.{IsBytes, Takes, Takes-then, Reads, given, given_value, given_rest, bind_ok, done_reads, bind_reads, as_reads, shorter, cut_in, cut_after}
 use Rattle.tcel_image.proofs.Fields.{number_reads, byte_reads, value_reads, many_reads, wide16, wide32, IsBytes-drop, test_ok}
 use Rattle.tcel_image.proofs.NameFields.{name_reads, names_reads}
 use Rattle.tcel_image.proofs.InstrFields.{code_reads}
@@ -60,25 +58,25 @@ unfolding state_at
 state_reads used most =
     as_reads state (FitsBehind used)
     (bind_reads name_reads (λ (s : ImageState). s.name)
-      (λ n hn. bind_reads (byte_reads 0 2) (λ (s : ImageState). kind_number s.kind)
-        (λ k hk. bind_reads (number_reads w32 (2 ^ 32) 1 (min (most_words (kind_from k)) (4096 - used)) wide32 (omega (arith, most_below (kind_from k)))) (λ (s : ImageState). s.words)
-          (λ w hw. bind_reads (many_reads value_reads w) (λ (s : ImageState). s.first)
-            (λ f hf. done_reads (record { name = n; kind = kind_from k; words = w; first = f }))
-            (λ f hf s e. ap (λ (t : ImageState). t.first) e))
-          (λ w hw s e. ap (λ (t : ImageState). t.words) e.1))
-        (λ k hk s e. ap (λ (t : ImageState). kind_number t.kind) e.1.1 ∙ kind_number-kind_from k hk))
-      (λ n hn s e. ap (λ (t : ImageState). t.name) e.1.1.1))
+    (λ n hn. bind_reads (byte_reads 0 2) (λ (s : ImageState). kind_number s.kind)
+    (λ k hk. bind_reads (number_reads w32 (2 ^ 32) 1 (min (most_words (kind_from k)) (4096 - used)) wide32 (omega (arith, most_below (kind_from k)))) (λ (s : ImageState). s.words)
+    (λ w hw. bind_reads (many_reads value_reads w) (λ (s : ImageState). s.first)
+    (λ f hf. done_reads (record { name = n; kind = kind_from k; words = w; first = f }))
+    (λ f hf s e. ap (λ (t : ImageState). t.first) e))
+    (λ w hw s e. ap (λ (t : ImageState). t.words) e.1))
+    (λ k hk s e. ap (λ (t : ImageState). kind_number t.kind) e.1.1 ∙ kind_number-kind_from k hk))
+    (λ n hn s e. ap (λ (t : ImageState). t.name) e.1.1.1))
     (λ s h. simp (append_assoc, append-nil))
     (λ s h.
-      let words : s.words ≤ min (most_words (kind_from (kind_number s.kind))) (4096 - used) = h.1.1.0.1 in
-      let same : kind_from (kind_number s.kind) ≡ s.kind = kind_from-kind_number s.kind in
-      let words' : s.words ≤ min (most_words s.kind) (4096 - used) = subst (λ (k : StateKind). s.words ≤ min (most_words k) (4096 - used)) same words in
-      record { alone = record { name = h.0; words = (h.1.1.0.0, omega (arith, words')); first = h.1.1.1.0.0; values = h.1.1.1.0.1 }; room = omega (arith, words') })
+    let words : s.words ≤ min (most_words (kind_from (kind_number s.kind))) (4096 - used) = h.1.1.0.1 in
+    let same : kind_from (kind_number s.kind) ≡ s.kind = kind_from-kind_number s.kind in
+    let words' : s.words ≤ min (most_words s.kind) (4096 - used) = subst (λ (k : StateKind). s.words ≤ min (most_words k) (4096 - used)) same words in
+    record { alone = record { name = h.0; words = (h.1.1.0.0, omega (arith, words')); first = h.1.1.1.0.0; values = h.1.1.1.0.1 }; room = omega (arith, words') })
     (λ s h.
-      let words : s.words ≤ min (most_words s.kind) (4096 - used) = omega (arith, h.alone.words.1, h.room) in
-      let same : kind_from (kind_number s.kind) ≡ s.kind = kind_from-kind_number s.kind in
-      let words' : s.words ≤ min (most_words (kind_from (kind_number s.kind))) (4096 - used) = subst (λ (k : StateKind). s.words ≤ min (most_words k) (4096 - used)) (sym same) words in
-      (h.alone.name, (kind_in_range s.kind, ((h.alone.words.0, words'), ((h.alone.first, h.alone.values), ap (λ (k : StateKind). record s { kind = k }) (sym same))))))
+    let words : s.words ≤ min (most_words s.kind) (4096 - used) = omega (arith, h.alone.words.1, h.room) in
+    let same : kind_from (kind_number s.kind) ≡ s.kind = kind_from-kind_number s.kind in
+    let words' : s.words ≤ min (most_words (kind_from (kind_number s.kind))) (4096 - used) = subst (λ (k : StateKind). s.words ≤ min (most_words k) (4096 - used)) (sym same) words in
+    (h.alone.name, (kind_in_range s.kind, ((h.alone.words.0, words'), ((h.alone.first, h.alone.values), ap (λ (k : StateKind). record s { kind = k }) (sym same))))))
 
 states_take : (n used : ℕ) (bytes : List ℕ) (ss : List ImageState) (rest : List ℕ) → used ≤ 4096 → IsBytes bytes → states_from used n bytes ≡ Ok (ss, rest)
     → Takes bytes (flat_map state ss) rest × (length ss ≡ n) × AllByRecursion StateInRange ss × (used + state_words ss ≤ 4096)
@@ -110,6 +108,18 @@ states_again used (s ∷ ss) rest fits room =
     ∙ ap (λ r. after r (λ first. states_from (used + first.words) (length ss) >>= λ others. done (first ∷ others))) ((state_reads used (omega (arith, all))).again s (flat_map state ss ++ rest) first)
     ∙ ap (λ r. after r (λ others. done (s ∷ others))) (states_again (used + s.words) ss rest fits.1 (omega (arith, all)))
 
+states_cut : (used : ℕ) (ss : List ImageState) (front : List ℕ) (b : ℕ) (more : List ℕ) → AllByRecursion StateInRange ss → used + state_words ss ≤ 4096
+    → flat_map state ss ≡ front ++ b ∷ more → states_from used (length ss) front ≡ Err faults.Cut
+unfolding states_from
+states_cut used [] front b more fits room e = absurd (omega (arith, shorter [] front b more e))
+states_cut used (s ∷ ss) front b more fits room e =
+    let all : used + (s.words + state_words ss) ≤ 4096 = omega (arith, room, sum_by-cons (λ (s : ImageState). s.words) s ss) in
+    let first : FitsBehind used s = record { alone = fits.0; room = omega (arith, all) } in
+    let reads = state_reads used (omega (arith, all)) in
+    cut_after (state_at used) (λ first. states_from (used + first.words) (length ss) >>= λ others. done (first ∷ others)) s (state s) (flat_map state ss) front b more e
+    (λ f c m q. reads.cut s f c m first q) (λ rest. reads.again s rest first)
+    (λ f q. ap (λ r. after r (λ others. done (s ∷ others))) (states_cut (used + s.words) ss f b more fits.1 (omega (arith, all)) q))
+
 record FollowStates (n : ℕ) (ss : List ImageState) : Type 0 where
   count : length ss ≡ n
   each : All StateInRange ss
@@ -118,10 +128,13 @@ record FollowStates (n : ℕ) (ss : List ImageState) : Type 0 where
 follow_reads : (n : ℕ) → Reads (states_from 0 n) (flat_map state) (FollowStates n)
 follow_reads n = record {
   takes = λ bytes ss rest fits e.
-    let t = states_take n 0 bytes ss rest (omega arith) fits e in
-    (t.0, record { count = t.1; each = All-from_recursion StateInRange ss t.2; words = omega (arith, t.3) });
+      let t = states_take n 0 bytes ss rest (omega arith) fits e in
+      (t.0, record { count = t.1; each = All-from_recursion StateInRange ss t.2; words = omega (arith, t.3) });
   again = λ ss rest h. subst (λ (k : ℕ). states_from 0 k (flat_map state ss ++ rest) ≡ Ok (ss, rest)) h.count
-    (states_again 0 ss rest (recursion_from_All StateInRange ss h.each) (omega (arith, h.words))) }
+      (states_again 0 ss rest (recursion_from_All StateInRange ss h.each) (omega (arith, h.words)));
+  cut = λ ss front b more h e. subst (λ (k : ℕ). states_from 0 k front ≡ Err faults.Cut) h.count
+      (states_cut 0 ss front b more (recursion_from_All StateInRange ss h.each) (omega (arith, h.words)) e);
+}
 
 states_reads : Reads states_at states StatesInRange
 unfolding states_at
@@ -154,26 +167,49 @@ unfolding task_at
 task_reads =
     as_reads task TaskInRange
     (bind_reads name_reads (λ (t : ImageTask). t.name)
-      (λ n hn. bind_reads (number_reads w32 (2 ^ 32) 0 4294967295 wide32 (omega arith)) (λ (t : ImageTask). t.period)
-        (λ p hp. bind_reads (byte_reads 0 1) (λ (t : ImageTask). flag t.sliced)
-          (λ f hf. bind_reads names_reads (λ (t : ImageTask). t.inputs)
-            (λ i hi. bind_reads names_reads (λ (t : ImageTask). t.outputs)
-              (λ o ho. bind_reads states_reads (λ (t : ImageTask). t.states)
-                (λ s hs. bind_reads (number_reads w32 (2 ^ 32) (state_words s) 65536 wide32 (omega arith)) (λ (t : ImageTask). t.cells)
-                  (λ c hc. bind_reads code_reads (λ (t : ImageTask). t.code)
-                    (λ l hl. done_reads (record { name = n; period = p; sliced = eqb f 1; inputs = i; outputs = o; states = s; cells = c; code = l }))
-                    (λ l hl t e. ap (λ (u : ImageTask). u.code) e))
-                  (λ c hc t e. ap (λ (u : ImageTask). u.cells) e.1))
-                (λ s hs t e. ap (λ (u : ImageTask). u.states) e.1.1))
-              (λ o ho t e. ap (λ (u : ImageTask). u.outputs) e.1.1.1))
-            (λ i hi t e. ap (λ (u : ImageTask). u.inputs) e.1.1.1.1))
-          (λ f hf t e. ap (λ (u : ImageTask). flag u.sliced) e.1.1.1.1.1 ∙ flag-test f hf))
-        (λ p hp t e. ap (λ (u : ImageTask). u.period) e.1.1.1.1.1.1))
-      (λ n hn t e. ap (λ (u : ImageTask). u.name) e.1.1.1.1.1.1.1))
+    (λ n hn. bind_reads (number_reads w32 (2 ^ 32) 0 4294967295 wide32 (omega arith)) (λ (t : ImageTask). t.period)
+    (λ p hp. bind_reads (byte_reads 0 1) (λ (t : ImageTask). flag t.sliced)
+    (λ f hf. bind_reads names_reads (λ (t : ImageTask). t.inputs)
+    (λ i hi. bind_reads names_reads (λ (t : ImageTask). t.outputs)
+    (λ o ho. bind_reads states_reads (λ (t : ImageTask). t.states)
+    (λ s hs. bind_reads (number_reads w32 (2 ^ 32) (state_words s) 65536 wide32 (omega arith)) (λ (t : ImageTask). t.cells)
+    (λ c hc. bind_reads code_reads (λ (t : ImageTask). t.code)
+    (λ l hl. done_reads (record { name = n; period = p; sliced = eqb f 1; inputs = i; outputs = o; states = s; cells = c; code = l }))
+    (λ l hl t e. ap (λ (u : ImageTask). u.code) e))
+    (λ c hc t e. ap (λ (u : ImageTask). u.cells) e.1))
+    (λ s hs t e. ap (λ (u : ImageTask). u.states) e.1.1))
+    (λ o ho t e. ap (λ (u : ImageTask). u.outputs) e.1.1.1))
+    (λ i hi t e. ap (λ (u : ImageTask). u.inputs) e.1.1.1.1))
+    (λ f hf t e. ap (λ (u : ImageTask). flag u.sliced) e.1.1.1.1.1 ∙ flag-test f hf))
+    (λ p hp t e. ap (λ (u : ImageTask). u.period) e.1.1.1.1.1.1))
+    (λ n hn t e. ap (λ (u : ImageTask). u.name) e.1.1.1.1.1.1.1))
     (λ t h. regroup (name t.name) (number w32 t.period) (byte (flag t.sliced)) (names t.inputs) (names t.outputs) (states t.states) (number w32 t.cells) (code t.code))
     (λ t h. record { name = h.0; period = omega (arith, h.1.0.1); inputs = h.1.1.1.0; outputs = h.1.1.1.1.0; states = h.1.1.1.1.1.0; cells = h.1.1.1.1.1.1.0; code = h.1.1.1.1.1.1.1.0 })
-    (λ t h. (h.name, ((omega arith, omega (arith, h.period)), (flag_in_range t.sliced, (h.inputs, (h.outputs, (h.states, (h.cells, (h.code,
-      ap (λ (b : Bool). record t { sliced = b }) (sym (test-flag t.sliced)))))))))))
+    (λ t h. (
+      h.name,
+      (
+        (omega arith, omega (arith, h.period)),
+        (
+          flag_in_range t.sliced,
+          (
+            h.inputs,
+            (
+              h.outputs,
+              (
+                h.states,
+                (
+                  h.cells,
+                  (
+                    h.code,
+                    ap (λ (b : Bool). record t { sliced = b }) (sym (test-flag t.sliced)),
+                  ),
+                ),
+              ),
+            ),
+          ),
+        ),
+      ),
+    ))
 
 -- ---- images
 
@@ -185,43 +221,85 @@ unfolding costs_at
 costs_reads =
     as_reads costs CostsInRange
     (bind_reads cost_reads (λ (c : Costs). c.const_) (λ const_ h0.
-     bind_reads cost_reads (λ (c : Costs). c.load) (λ load h1.
-     bind_reads cost_reads (λ (c : Costs). c.store) (λ store h2.
-     bind_reads cost_reads (λ (c : Costs). c.load_at) (λ load_at h3.
-     bind_reads cost_reads (λ (c : Costs). c.store_at) (λ store_at h4.
-     bind_reads cost_reads (λ (c : Costs). c.arith) (λ arith_ h5.
-     bind_reads cost_reads (λ (c : Costs). c.multiply) (λ multiply h6.
-     bind_reads cost_reads (λ (c : Costs). c.divide) (λ divide h7.
-     bind_reads cost_reads (λ (c : Costs). c.jump) (λ jump h8.
-     bind_reads cost_reads (λ (c : Costs). c.branch) (λ branch h9.
-     bind_reads cost_reads (λ (c : Costs). c.loop_) (λ loop_ h10.
-     bind_reads cost_reads (λ (c : Costs). c.receive) (λ receive h11.
-     bind_reads cost_reads (λ (c : Costs). c.send) (λ send h12.
-     bind_reads cost_reads (λ (c : Costs). c.mark) (λ mark h13.
-     bind_reads cost_reads (λ (c : Costs). c.end) (λ end h14.
-     done_reads (record { const_ = const_; load = load; store = store; load_at = load_at; store_at = store_at; arith = arith_; multiply = multiply; divide = divide; jump = jump; branch = branch; loop_ = loop_; receive = receive; send = send; mark = mark; end = end }))
-     (λ x h c e. ap (λ (d : Costs). d.end) e))
-     (λ x h c e. ap (λ (d : Costs). d.mark) e.1))
-     (λ x h c e. ap (λ (d : Costs). d.send) e.1.1))
-     (λ x h c e. ap (λ (d : Costs). d.receive) e.1.1.1))
-     (λ x h c e. ap (λ (d : Costs). d.loop_) e.1.1.1.1))
-     (λ x h c e. ap (λ (d : Costs). d.branch) e.1.1.1.1.1))
-     (λ x h c e. ap (λ (d : Costs). d.jump) e.1.1.1.1.1.1))
-     (λ x h c e. ap (λ (d : Costs). d.divide) e.1.1.1.1.1.1.1))
-     (λ x h c e. ap (λ (d : Costs). d.multiply) e.1.1.1.1.1.1.1.1))
-     (λ x h c e. ap (λ (d : Costs). d.arith) e.1.1.1.1.1.1.1.1.1))
-     (λ x h c e. ap (λ (d : Costs). d.store_at) e.1.1.1.1.1.1.1.1.1.1))
-     (λ x h c e. ap (λ (d : Costs). d.load_at) e.1.1.1.1.1.1.1.1.1.1.1))
-     (λ x h c e. ap (λ (d : Costs). d.store) e.1.1.1.1.1.1.1.1.1.1.1.1))
-     (λ x h c e. ap (λ (d : Costs). d.load) e.1.1.1.1.1.1.1.1.1.1.1.1.1))
-     (λ x h c e. ap (λ (d : Costs). d.const_) e.1.1.1.1.1.1.1.1.1.1.1.1.1.1))
+    bind_reads cost_reads (λ (c : Costs). c.load) (λ load h1.
+    bind_reads cost_reads (λ (c : Costs). c.store) (λ store h2.
+    bind_reads cost_reads (λ (c : Costs). c.load_at) (λ load_at h3.
+    bind_reads cost_reads (λ (c : Costs). c.store_at) (λ store_at h4.
+    bind_reads cost_reads (λ (c : Costs). c.arith) (λ arith_ h5.
+    bind_reads cost_reads (λ (c : Costs). c.multiply) (λ multiply h6.
+    bind_reads cost_reads (λ (c : Costs). c.divide) (λ divide h7.
+    bind_reads cost_reads (λ (c : Costs). c.jump) (λ jump h8.
+    bind_reads cost_reads (λ (c : Costs). c.branch) (λ branch h9.
+    bind_reads cost_reads (λ (c : Costs). c.loop_) (λ loop_ h10.
+    bind_reads cost_reads (λ (c : Costs). c.receive) (λ receive h11.
+    bind_reads cost_reads (λ (c : Costs). c.send) (λ send h12.
+    bind_reads cost_reads (λ (c : Costs). c.mark) (λ mark h13.
+    bind_reads cost_reads (λ (c : Costs). c.end) (λ end h14.
+    done_reads (record { const_ = const_; load = load; store = store; load_at = load_at; store_at = store_at; arith = arith_; multiply = multiply; divide = divide; jump = jump; branch = branch; loop_ = loop_; receive = receive; send = send; mark = mark; end = end }))
+    (λ x h c e. ap (λ (d : Costs). d.end) e))
+    (λ x h c e. ap (λ (d : Costs). d.mark) e.1))
+    (λ x h c e. ap (λ (d : Costs). d.send) e.1.1))
+    (λ x h c e. ap (λ (d : Costs). d.receive) e.1.1.1))
+    (λ x h c e. ap (λ (d : Costs). d.loop_) e.1.1.1.1))
+    (λ x h c e. ap (λ (d : Costs). d.branch) e.1.1.1.1.1))
+    (λ x h c e. ap (λ (d : Costs). d.jump) e.1.1.1.1.1.1))
+    (λ x h c e. ap (λ (d : Costs). d.divide) e.1.1.1.1.1.1.1))
+    (λ x h c e. ap (λ (d : Costs). d.multiply) e.1.1.1.1.1.1.1.1))
+    (λ x h c e. ap (λ (d : Costs). d.arith) e.1.1.1.1.1.1.1.1.1))
+    (λ x h c e. ap (λ (d : Costs). d.store_at) e.1.1.1.1.1.1.1.1.1.1))
+    (λ x h c e. ap (λ (d : Costs). d.load_at) e.1.1.1.1.1.1.1.1.1.1.1))
+    (λ x h c e. ap (λ (d : Costs). d.store) e.1.1.1.1.1.1.1.1.1.1.1.1))
+    (λ x h c e. ap (λ (d : Costs). d.load) e.1.1.1.1.1.1.1.1.1.1.1.1.1))
+    (λ x h c e. ap (λ (d : Costs). d.const_) e.1.1.1.1.1.1.1.1.1.1.1.1.1.1))
     (λ c h. refl)
-    (λ c h. elim [ keys.Const ↦ h.0 | keys.Load ↦ h.1.0 | keys.Store ↦ h.1.1.0 | keys.LoadAt ↦ h.1.1.1.0 | keys.StoreAt ↦ h.1.1.1.1.0 | keys.Arith ↦ h.1.1.1.1.1.0
-      | keys.Multiply ↦ h.1.1.1.1.1.1.0 | keys.Divide ↦ h.1.1.1.1.1.1.1.0 | keys.Jump ↦ h.1.1.1.1.1.1.1.1.0 | keys.Branch ↦ h.1.1.1.1.1.1.1.1.1.0
-      | keys.Loop ↦ h.1.1.1.1.1.1.1.1.1.1.0 | keys.Receive ↦ h.1.1.1.1.1.1.1.1.1.1.1.0 | keys.Send ↦ h.1.1.1.1.1.1.1.1.1.1.1.1.0 | keys.Mark ↦ h.1.1.1.1.1.1.1.1.1.1.1.1.1.0
-      | keys.End ↦ h.1.1.1.1.1.1.1.1.1.1.1.1.1.1.0 ])
-    (λ c h. (h keys.Const, (h keys.Load, (h keys.Store, (h keys.LoadAt, (h keys.StoreAt, (h keys.Arith, (h keys.Multiply, (h keys.Divide, (h keys.Jump, (h keys.Branch,
-      (h keys.Loop, (h keys.Receive, (h keys.Send, (h keys.Mark, (h keys.End, refl))))))))))))))))
+    (λ c h. elim [
+      | keys.Const ↦ h.0
+      | keys.Load ↦ h.1.0
+      | keys.Store ↦ h.1.1.0
+      | keys.LoadAt ↦ h.1.1.1.0
+      | keys.StoreAt ↦ h.1.1.1.1.0
+      | keys.Arith ↦ h.1.1.1.1.1.0
+      | keys.Multiply ↦ h.1.1.1.1.1.1.0
+      | keys.Divide ↦ h.1.1.1.1.1.1.1.0
+      | keys.Jump ↦ h.1.1.1.1.1.1.1.1.0
+      | keys.Branch ↦ h.1.1.1.1.1.1.1.1.1.0
+      | keys.Loop ↦ h.1.1.1.1.1.1.1.1.1.1.0
+      | keys.Receive ↦ h.1.1.1.1.1.1.1.1.1.1.1.0
+      | keys.Send ↦ h.1.1.1.1.1.1.1.1.1.1.1.1.0
+      | keys.Mark ↦ h.1.1.1.1.1.1.1.1.1.1.1.1.1.0
+      | keys.End ↦ h.1.1.1.1.1.1.1.1.1.1.1.1.1.1.0
+    ])
+    (λ c h. (
+      h keys.Const,
+      (
+        h keys.Load,
+        (
+          h keys.Store,
+          (
+            h keys.LoadAt,
+            (
+              h keys.StoreAt,
+              (
+                h keys.Arith,
+                (
+                  h keys.Multiply,
+                  (
+                    h keys.Divide,
+                    (
+                      h keys.Jump,
+                      (
+                        h keys.Branch,
+                        (h keys.Loop, (h keys.Receive, (h keys.Send, (h keys.Mark, (h keys.End, refl))))),
+                      ),
+                    ),
+                  ),
+                ),
+              ),
+            ),
+          ),
+        ),
+      ),
+    ))
 
 same_bytes : (xs ys : List ℕ) → pointwise nat_eq xs ys ≡ true → xs ≡ ys
 same_bytes [] [] h = refl
@@ -247,32 +325,43 @@ magic_again : (rest : List ℕ) → magic_at (magic ++ rest) ≡ Ok (magic, rest
 unfolding magic_at
 magic_again rest = refl
 
-magic_reads : Reads magic_at (λ m. m) (λ m. m ≡ magic)
-magic_reads = record {
-  takes = λ bytes m rest fits e. magic_takes bytes m rest fits e;
-  again = λ m rest h. subst (λ (l : List ℕ). magic_at (l ++ rest) ≡ Ok (l, rest)) (sym h) (magic_again rest) }
+regroup_five : (a b c d e : List ℕ) → a ++ b ++ c ++ d ++ e ≡ a ++ (b ++ (c ++ (d ++ e)))
+regroup_five a b c d e = simp append_assoc
 
-regroup_five : (a b c d e : List ℕ) → a ++ b ++ c ++ d ++ e ≡ a ++ (b ++ (c ++ (d ++ (e ++ []))))
-regroup_five a b c d e = simp (append_assoc, append-nil)
+-- the fields behind the magic
+fields_at : Reader Image
+fields_at = number_at w32 1 1 >>= λ v. number_at w32 1 16 >>= λ n. costs_at >>= λ c. many_at task_at n >>= λ ts. done (record { costs = c; tasks = ts })
 
-image_reads : Reads image_at spelling InRange
-unfolding image_at
-image_reads =
-    as_reads spelling InRange
-    (bind_reads magic_reads (λ (i : Image). magic)
-      (λ m hm. bind_reads (number_reads w32 (2 ^ 32) 1 1 wide32 (omega arith)) (λ (i : Image). 1)
-        (λ v hv. bind_reads (number_reads w32 (2 ^ 32) 1 16 wide32 (omega arith)) (λ (i : Image). length i.tasks)
-          (λ n hn. bind_reads costs_reads (λ (i : Image). i.costs)
-            (λ c hc. bind_reads (many_reads task_reads n) (λ (i : Image). i.tasks)
-              (λ ts hts. done_reads (record { costs = c; tasks = ts }))
-              (λ ts hts i e. ap (λ (j : Image). j.tasks) e))
-            (λ c hc i e. ap (λ (j : Image). j.costs) e.1))
-          (λ n hn i e. e.1.0.0))
-        (λ v hv i e. omega (arith, hv.0, hv.1)))
-      (λ m hm i e. sym hm))
-    (λ i h. regroup_five magic (number w32 1) (number w32 (length i.tasks)) (costs i.costs) (flat_map task i.tasks))
-    (λ i h. record { costs = h.1.1.1.0; count = h.1.1.0; tasks = h.1.1.1.1.0.1 })
-    (λ i h. (refl, ((omega arith, omega arith), (h.count, (h.costs, ((refl, h.tasks), refl))))))
+fields : Image → List ℕ
+fields i = number w32 1 ++ (number w32 (length i.tasks) ++ (costs i.costs ++ flat_map task i.tasks))
+
+spelling_is : (i : Image) → spelling i ≡ magic ++ fields i
+unfolding fields
+spelling_is i = regroup_five magic (number w32 1) (number w32 (length i.tasks)) (costs i.costs) (flat_map task i.tasks)
+
+fields_reads : Reads fields_at fields InRange
+unfolding fields_at fields
+fields_reads =
+    as_reads fields InRange
+    (bind_reads (number_reads w32 (2 ^ 32) 1 1 wide32 (omega arith)) (λ (i : Image). 1)
+    (λ v hv. bind_reads (number_reads w32 (2 ^ 32) 1 16 wide32 (omega arith)) (λ (i : Image). length i.tasks)
+    (λ n hn. bind_reads costs_reads (λ (i : Image). i.costs)
+    (λ c hc. bind_reads (many_reads task_reads n) (λ (i : Image). i.tasks)
+    (λ ts hts. done_reads (record { costs = c; tasks = ts }))
+    (λ ts hts i e. ap (λ (j : Image). j.tasks) e))
+    (λ c hc i e. ap (λ (j : Image). j.costs) e.1))
+    (λ n hn i e. e.1.0.0))
+    (λ v hv i e. omega (arith, hv.0, hv.1)))
+    (λ i h. ap (λ (l : List ℕ). number w32 1 ++ (number w32 (length i.tasks) ++ (costs i.costs ++ l))) (sym (append-nil (flat_map task i.tasks))))
+    (λ i h. record { costs = h.1.1.0; count = h.1.0; tasks = h.1.1.1.0.1 })
+    (λ i h. ((omega arith, omega arith), (h.count, (h.costs, ((refl, h.tasks), refl)))))
+
+image_at-is : (bytes : List ℕ) → image_at bytes ≡ after (magic_at bytes) (λ m. fields_at)
+unfolding image_at fields_at
+image_at-is bytes = refl
+
+behind_magic : (rest : List ℕ) → image_at (magic ++ rest) ≡ fields_at rest
+behind_magic rest = image_at-is (magic ++ rest) ∙ ap (λ r. after r (λ (m : List ℕ). fields_at)) (magic_again rest)
 
 -- ---- all of the bytes
 
@@ -290,12 +379,24 @@ ended_ok (Err f) x e = absurd cc
 
 pub image_takes : (bytes : List ℕ) (i : Image) → IsBytes bytes → ended (image_at bytes) ≡ Ok i → InRange i × (bytes ≡ spelling i)
 image_takes bytes i fits e =
-    let t = image_reads.takes bytes i [] fits (ended_ok (image_at bytes) i e) in
-    (t.1, t.0.parts ∙ append-nil (spelling i))
+    let b = bind_ok (magic_at bytes) (λ m. fields_at) (i, []) (sym (image_at-is bytes) ∙ ended_ok (image_at bytes) i e) in
+    let first = magic_takes bytes b.0 b.1 fits b.2 in
+    let second = fields_reads.takes b.1 i [] first.0.rest_fits b.3 in
+    let parts : bytes ≡ magic ++ b.1 = first.0.parts ∙ ap (λ (m : List ℕ). m ++ b.1) first.1 in
+    (second.1, parts ∙ ap (λ (l : List ℕ). magic ++ l) (second.0.parts ∙ append-nil (fields i)) ∙ sym (spelling_is i))
 
 -- a spelling with bytes behind it
 pub image_again : (i : Image) (rest : List ℕ) → InRange i → image_at (spelling i ++ rest) ≡ Ok (i, rest)
-image_again i rest h = image_reads.again i rest h
+image_again i rest h =
+    ap (λ (l : List ℕ). image_at (l ++ rest)) (spelling_is i) ∙ ap image_at (append_assoc magic (fields i) rest) ∙ behind_magic (fields i ++ rest) ∙ fields_reads.again i rest h
+
+-- a proper front of a spelling that has the magic
+pub image_cut : (i : Image) (front : List ℕ) (b : ℕ) (more : List ℕ) → InRange i → spelling i ≡ front ++ b ∷ more → 4 ≤ length front → ended (image_at front) ≡ Err faults.Cut
+image_cut i front b more h e long =
+    elim (cut_in magic (fields i) front b more (sym (spelling_is i) ∙ e)) [
+      | inl (c, rest, q) ↦ absurd (omega (arith, long, shorter magic front c rest q))
+      | inr (behind, q, r) ↦ ap (λ (l : List ℕ). ended (image_at l)) q ∙ ap ended (behind_magic behind ∙ fields_reads.cut i behind b more h r)
+    ]
 
 pub whole_again : (i : Image) → InRange i → ended (image_at (spelling i)) ≡ Ok i
 whole_again i h = ap (λ (l : List ℕ). ended (image_at l)) (sym (append-nil (spelling i))) ∙ ap ended (image_again i [] h)

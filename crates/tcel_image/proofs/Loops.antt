@@ -5,7 +5,7 @@ use Rattle.tcel_image.specs.declared.fault.Fault.{Fault}
 use Rattle.tcel_image.specs.declared.fault.ReadError.{ReadError}
 use Rattle.tcel_image.specs.declared.fault.ReadError.TheVariants as errors
 use Rattle.tcel_image.specs.declared.image.ImageState.{ImageState}
-use Rattle.tcel_image.specs.Reading.{Reader, after, ◌>>=◌, done, Fails, many_at, state_at, states_from}
+use Rattle.tcel_image.specs.Reading.{Reader, after, done, Fails, many_at, state_at, states_from}
 
 -- what was read before, and what is still read
 abbrev pub with_front : {A : Type 0} → List A → Result (List A × List ℕ) Fault → Result (List A × List ℕ) Fault
@@ -47,7 +47,7 @@ module _ (front : List ImageState) (count i used : ℕ) (bytes : List ℕ) (tota
   goes_on_state x after_it lt h so_far =
       let k : count - i ≡ suc (count - (i + 1)) = omega arith in
       let now : with_front front (states_from used (count - i) bytes) ≡ with_front (front ++ x ∷ []) (states_from (used + x.words) (count - (i + 1)) after_it) =
-          rw (k, h) (regroup front x (states_from (used + x.words) (count - (i + 1)) after_it)) in
+      rw (k, h) (regroup front x (states_from (used + x.words) (count - (i + 1)) after_it)) in
       sym now ∙ so_far
 
   pub ends_state : (e : ReadError) → i < count → Fails e (state_at used bytes) → with_front front (states_from used (count - i) bytes) ≡ total → Fails e total

@@ -1,15 +1,14 @@
 -- Names as fields.
-use Rattle.std.proofs.Common.{◌≡◌, ℕ, zero, suc, ◌+◌, ◌-◌, ◌<◌, ◌≤◌, ◌^◌, Bool, true, false, cond, ltb, ◌&&◌, List, [], ◌∷◌, ◌++◌, length, take, drop, Result, Ok, Err, refl, sym, ap, subst, ◌∙◌, arith, inl, inr, All}
-use Rattle.std.specs.List.{flat_map, list_all, prefix_len}
+use Rattle.std.proofs.Common.{◌<◌, ◌≡◌, ℕ, ◌+◌, ◌-◌, ◌≤◌, ◌^◌, true, false, cond, ltb, List, [], ◌∷◌, ◌++◌, length, take, drop, Ok, Err, refl, sym, ap, subst, ◌∙◌, arith, inl, inr}
+use Rattle.std.specs.List.{list_all, prefix_len}
 use Rattle.std.specs.Int.{w16, IsInRange}
-use Rattle.std.proofs.lemmas.Bool.{ltb-false, le-ltb, cases_Bool, and_parts, and_from, true_from_ne_false}
+use Rattle.std.proofs.lemmas.Bool.{ltb-false, le-ltb, lt-ltb, cases_Bool, and_parts, and_from, true_from_ne_false}
 use Rattle.std.proofs.lemmas.List.{take_at, drop_at, take-append-drop, length-append, length-take}
 use Rattle.tcel_num.specs.Name.{IsName, is_word, is_reserved, may_start, may_follow}
-use Rattle.tcel_image.specs.declared.fault.Fault.{Fault}
 use Rattle.tcel_image.specs.declared.fault.Fault.TheVariants as faults
-use Rattle.tcel_image.specs.Spelling.{number, byte, name, names, NamesInRange}
-use Rattle.tcel_image.specs.Reading.{Reader, after, ◌>>=◌, done, number_at, byte_at, many_at, name_front, text_at, name_at, names_at}
-use Rattle.tcel_image.proofs.Readers.{IsBytes, Takes, Reads, given, given_value, given_rest, bind_reads, as_reads}
+use Rattle.tcel_image.specs.Spelling.{name, names, NamesInRange}
+use Rattle.tcel_image.specs.Reading.{name_front, text_at, name_at, names_at}
+use Rattle.tcel_image.proofs.Readers.{IsBytes, Takes, Reads, given, given_value, given_rest, bind_reads, as_reads, shorter}
 use Rattle.tcel_image.proofs.Fields.{IsBytes-drop, guard_ok, number_reads, byte_reads, many_reads, wide16}
 
 all_follow : (bs : List ℕ) → length bs ≤ prefix_len may_follow bs → list_all may_follow bs ≡ true
@@ -17,8 +16,8 @@ all_follow [] h = refl
 all_follow (b ∷ bs) h =
     elim (cases_Bool (may_follow b)) [
       | inl good ↦
-        let longer : length bs ≤ prefix_len may_follow bs = omega (arith, rw good at h) in
-        and_from (may_follow b) (list_all may_follow bs) good (all_follow bs longer)
+          let longer : length bs ≤ prefix_len may_follow bs = omega (arith, rw good at h) in
+          and_from (may_follow b) (list_all may_follow bs) good (all_follow bs longer)
       | inr bad ↦ absurd (omega (arith, rw bad at h))
     ]
 
@@ -34,8 +33,8 @@ word_from_front [] some h = absurd (omega arith)
 word_from_front (b ∷ bs) some h =
     elim (cases_Bool (may_start b)) [
       | inl good ↦
-        let longer : length bs ≤ prefix_len may_follow bs = omega (arith, rw good at h) in
-        and_from (may_start b) (list_all may_follow bs) good (all_follow bs longer)
+          let longer : length bs ≤ prefix_len may_follow bs = omega (arith, rw good at h) in
+          and_from (may_start b) (list_all may_follow bs) good (all_follow bs longer)
       | inr bad ↦ absurd (omega (arith, rw bad at h))
     ]
 
@@ -66,10 +65,13 @@ text_takes count range bytes text rest fits e =
     let len : length front ≡ count = omega (arith, length-take count bytes) in
     let word : is_word front ≡ true = word_from_front front (omega (arith, len, range.0)) (omega (arith, len, word_long)) in
     let is_name : IsName front = record { word = word; short = omega (arith, len, range.1); free = k.0 } in
-    let parts : bytes ≡ front ++ drop count bytes = sym (take-append-drop count bytes) in
-    (record { parts = subst (λ (t : List ℕ). bytes ≡ t ++ rest) text-is (subst (λ (r : List ℕ). bytes ≡ front ++ r) rest-is parts);
-              rest_fits = subst IsBytes rest-is (IsBytes-drop count bytes fits) },
-     subst (λ (t : List ℕ). (length t ≡ count) × IsName t) text-is (len, is_name))
+    let parts : bytes ≡ front ++ drop count bytes = sym (take-append-drop count bytes) in (
+      record {
+        parts = subst (λ (t : List ℕ). bytes ≡ t ++ rest) text-is (subst (λ (r : List ℕ). bytes ≡ front ++ r) rest-is parts);
+        rest_fits = subst IsBytes rest-is (IsBytes-drop count bytes fits);
+      },
+      subst (λ (t : List ℕ). (length t ≡ count) × IsName t) text-is (len, is_name),
+    )
 
 text_again : (text rest : List ℕ) → IsName text → text_at (length text) (text ++ rest) ≡ Ok (text, rest)
 unfolding text_at
@@ -78,10 +80,16 @@ text_again text rest is_name =
     let word_long : ltb (name_front text) (length text) ≡ false = le-ltb _ _ (front_from_word text is_name.word) in
     rw (long, take_at text rest (length text) refl, drop_at text rest (length text) refl, word_long, is_name.free) refl
 
+text_cut : (count : ℕ) (front : List ℕ) → length front < count → text_at count front ≡ Err faults.Cut
+unfolding text_at
+text_cut count front short = rw (lt-ltb (length front) count short) refl
+
 text_reads : (count : ℕ) → IsInRange 1 32 count → Reads (text_at count) (λ text. text) (λ text. (length text ≡ count) × IsName text)
 text_reads count range = record {
   takes = λ bytes text rest fits e. text_takes count range bytes text rest fits e;
-  again = λ text rest fits. subst (λ n. text_at n (text ++ rest) ≡ Ok (text, rest)) fits.0 (text_again text rest fits.1) }
+  again = λ text rest fits. subst (λ n. text_at n (text ++ rest) ≡ Ok (text, rest)) fits.0 (text_again text rest fits.1);
+  cut = λ text front b more fits e. text_cut count front (omega (arith, fits.0, shorter text front b more e));
+}
 
 pub name_reads : Reads name_at name IsName
 unfolding name_at

@@ -1,6 +1,8 @@
 pub mod Costs
 pub mod Spelling
 pub mod Reading
+pub mod Laws
+pub mod SpellingExample
 pub mod Instructions
 pub mod Machine
 pub mod TraceText

@@ -1,5 +1,5 @@
 -- Which image bytes spell, and else their first fault: from front to back, field by field.
-use Rattle.std.specs.Prelude.{◌≡◌, ℕ, zero, suc, ◌-◌, ◌+◌, ℤ, Bool, List, [], ◌∷◌, ◌++◌, length, take, drop, Result, Ok, Err, nat_lt, ◌==◌, min, if◌then◌else◌, nat_eq}
+use Rattle.std.specs.Prelude.{◌≡◌, ℕ, zero, suc, ◌-◌, ◌+◌, ℤ, List, [], ◌∷◌, length, take, drop, Result, Ok, Err, nat_lt, ◌==◌, min, if◌then◌else◌, nat_eq}
 use Rattle.std.specs.List.{starts_with, prefix_len}
 use Rattle.std.specs.Int.{Width, w16, w32, w64, byte_len, from_le_bytes, cast_signed, is_in_range}
 use Rattle.tcel_num.specs.Name.{may_start, may_follow, is_reserved}

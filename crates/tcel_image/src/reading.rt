@@ -154,7 +154,9 @@ fn text_of(count: u8, bytes: &[u8]) -> Result<(Name, &[u8]), ReadError>
     }
     match Name::new(text) {
         Some(name) => Ok((name, rest)),
-        None => Err(ReadError::Fault(Fault::Value { left: bytes.len() + 1 })),
+        None => Err(ReadError::Fault(Fault::Value {
+            left: bytes.len() + 1,
+        })),
     }
 }
 
@@ -178,13 +180,25 @@ fn names_of(alloc: Global, bytes: &[u8]) -> Result<(Items<Name>, &[u8]), ReadErr
     many(alloc, u32::from(count), rest)
 }
 
-const ANY: Range = Range { least: 0, greatest: u32::MAX };
+const ANY: Range = Range {
+    least: 0,
+    greatest: u32::MAX,
+};
 
-const LENGTH: Range = Range { least: 1, greatest: 4096 };
+const LENGTH: Range = Range {
+    least: 1,
+    greatest: 4096,
+};
 
-const BOUND: Range = Range { least: 1, greatest: 1_000_000_000 };
+const BOUND: Range = Range {
+    least: 1,
+    greatest: 1_000_000_000,
+};
 
-const UNUSED: Range = Range { least: 0, greatest: 0 };
+const UNUSED: Range = Range {
+    least: 0,
+    greatest: 0,
+};
 
 #[tactic(auto, unfolding(crate::specs::Reading::operands_at))]
 fn operands_of(a: Range, b: Range, c: Range, bytes: &[u8]) -> Result<(Operands, &[u8]), ReadError>
@@ -238,7 +252,12 @@ fn operator_of(opcode: u8, bytes: &[u8]) -> Result<(u8, &[u8]), ReadError>
 }
 
 #[tactic(auto, unfolding(crate::specs::Reading::instr_at))]
-fn instr_of(alloc: Global, opcode: u8, operator: u8, bytes: &[u8]) -> Result<(Instr, &[u8]), ReadError>
+fn instr_of(
+    alloc: Global,
+    opcode: u8,
+    operator: u8,
+    bytes: &[u8],
+) -> Result<(Instr, &[u8]), ReadError>
     ensures { Gives (λ x. (x.0, x.1.now)) result (instr_at opcode operator bytes.now) }
 {
     let (a, b, c) = match opcode {
@@ -306,7 +325,7 @@ fn kind_from(number: u8) -> StateKind
     }
 }
 
-fn most_words(kind: StateKind) -> u32
+pub(crate) fn most_words(kind: StateKind) -> u32
     ensures { result ≡ most_words kind }
 {
     match kind {
@@ -342,7 +361,11 @@ fn state_of(alloc: Global, used: u32, bytes: &[u8]) -> Result<(ImageState, &[u8]
 }
 
 /// The states, and how many words they have together.
-fn states_from(alloc: Global, count: u16, bytes: &[u8]) -> Result<(Items<ImageState>, u32, &[u8]), ReadError>
+fn states_from(
+    alloc: Global,
+    count: u16,
+    bytes: &[u8],
+) -> Result<(Items<ImageState>, u32, &[u8]), ReadError>
     ensures given { Gives (λ x. (x.0, x.2.now)) result (states_from 0 count bytes.now) }
     ensures words { IfOk result (λ x. x.1 ≡ state_words x.0) }
 {
@@ -483,8 +506,12 @@ fn fault_in(total: usize, fault: Fault) -> ImageFail
     match fault {
         Fault::Magic => ImageFail::BadMagic,
         Fault::Cut => ImageFail::Short { at: total },
-        Fault::Value { left } => ImageFail::BadField { at: total.saturating_sub(left) },
-        Fault::Surplus { left } => ImageFail::Extra { at: total.saturating_sub(left) },
+        Fault::Value { left } => ImageFail::BadField {
+            at: total.saturating_sub(left),
+        },
+        Fault::Surplus { left } => ImageFail::Extra {
+            at: total.saturating_sub(left),
+        },
     }
 }
 

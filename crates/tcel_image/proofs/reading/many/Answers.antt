@@ -1,4 +1,3 @@
-use Rattle.std.proofs.Common.{◌≡◌, ap, ◌∙◌, sym}
 use Rattle.std.proofs.lemmas.Result.{err_from_is_err_and}
 use Rattle.tcel_image.specs.Reading.{many_at}
 use Rattle.tcel_image.proofs.Loops.{goes_on, ends, is_done}
@@ -8,14 +7,14 @@ pub returns-in_err-item : goal.returns-in_err-item
 returns-in_err-item g c =
     let p = err_from_is_err_and c.from_residual.result c.from_residual.ensures.1 in
     rw (p.1, p.2) (ends g.T.Piece.read_so c.loop.items.items c.args.count c.loop.counter c.loop.rest.now (many_at g.T.Piece.read_so c.args.count c.args.bytes.now)
-      c.in_err-item.field-0.0 c.loop-test.true c.in_err-item.ensures c.loop.invariant)
+    c.in_err-item.field-0.0 c.loop-test.true c.in_err-item.ensures c.loop.invariant)
 
 pub loop-preserved : goal.loop-preserved
 loop-preserved g c =
     rw c.in_ok-push.ensures.items (goes_on g.T.Piece.read_so c.loop.items.items c.args.count c.loop.counter c.loop.rest.now (many_at g.T.Piece.read_so c.args.count c.args.bytes.now)
-      c.in_ok-item.item c.in_ok-item.after.now c.loop-test.true c.in_ok-item.ensures c.loop.invariant)
+    c.in_ok-item.item c.in_ok-item.after.now c.loop-test.true c.in_ok-item.ensures c.loop.invariant)
 
 pub returns : goal.returns
 returns g c =
     rw c.from_vec.ensures (is_done g.T.Piece.read_so c.loop.items.items c.args.count c.loop.counter c.loop.rest.now (many_at g.T.Piece.read_so c.args.count c.args.bytes.now)
-      c.loop-test.false c.loop.invariant)
+    c.loop-test.false c.loop.invariant)
