@@ -13,4 +13,5 @@ pub mod Traces
 pub mod SetMeets
 pub mod StateWords
 pub mod WholeFrames
+pub mod WholeSets
 pub mod PlainMeets
