@@ -15,3 +15,4 @@ pub mod StateWords
 pub mod WholeFrames
 pub mod WholeSets
 pub mod PlainMeets
+pub mod ReachedInTime
