@@ -273,10 +273,10 @@ module _ (costs : Costs) (ranges : CostsInRange costs) (task : ImageTask) (input
         as_many = refl;
         ahead =
             λ dues later suit then' ran since h waited low.
-              subst (λ l. Ahead costs task inputs last ran since (ready_at p stack (m.cells ++ others) frame taken) (l ++ later)) (sym (no_dues release floor [] dues suit))
-              (quiet_step costs task inputs last frame taken later (Copy (place vars a) (place vars b) (width vars a)) 0 (λ now r. refl) (mul-pos fits.some each_word) p (p + 1) ran since stack stack
-                (m.cells ++ others) (cells ++ others) stands.0 (λ spent. ap (λ l. quietly (ready_at (p + 1) stack l frame taken)) same)
-                (ahead_at costs task inputs last frame taken later _ _ _ _ _ _ stack (cells ++ others) refl refl refl (then' (ran + all) (since + all) (omega arith) (omega arith) (omega arith))));
+            subst (λ l. Ahead costs task inputs last ran since (ready_at p stack (m.cells ++ others) frame taken) (l ++ later)) (sym (no_dues release floor [] dues suit))
+            (quiet_step costs task inputs last frame taken later (Copy (place vars a) (place vars b) (width vars a)) 0 (λ now r. refl) (mul-pos fits.some each_word) p (p + 1) ran since stack stack
+            (m.cells ++ others) (cells ++ others) stands.0 (λ spent. ap (λ l. quietly (ready_at (p + 1) stack l frame taken)) same)
+            (ahead_at costs task inputs last frame taken later _ _ _ _ _ _ stack (cells ++ others) refl refl refl (then' (ran + all) (since + all) (omega arith) (omega arith) (omega arith))));
       }
 
   -- a test, which goes on behind it where it holds, and else at the target

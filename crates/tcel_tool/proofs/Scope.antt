@@ -79,7 +79,7 @@ length-copied cells from to many h g =
       length-append (take many (drop from cells)) (drop (to + many) cells),
       length-take-le to cells (omega arith),
       length-take-le many (drop from cells) (omega (arith, length-drop from cells)),
-      length-drop (to + many) cells
+      length-drop (to + many) cells,
     )
 
 -- two arrays of one width, which is not 0

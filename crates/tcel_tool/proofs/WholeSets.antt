@@ -1,9 +1,10 @@
 -- Every trace of the image of a set of which no task is sliced meets the set.
-use Rattle.std.proofs.Common.{◌≡◌, ℕ, ◌+◌, ◌*◌, ◌<◌, ◌≤◌, List, [], ◌∷◌, length, map, drop, refl, sym, ap, ◌∙◌, subst, arith, inl, inr}
-use Rattle.std.specs.Prelude.{slice_index_or}
+use Rattle.std.proofs.Common.{◌≡◌, ℕ, ◌+◌, ◌*◌, ◌<◌, ◌≤◌, List, [], ◌∷◌, Some, length, map, drop, refl, sym, ap, ◌∙◌, subst, arith, inl, inr}
+use Rattle.std.specs.Prelude.{slice_get, slice_index_or}
 use Rattle.std.proofs.lemmas.Bool.{cases_lt}
 use Rattle.std.proofs.lemmas.List.{drop_more, drop_all, get_or_past}
-use Rattle.tcel_num.specs.Plan.{Plan}
+use Rattle.tcel_num.specs.Lateness.{IsNeverLate}
+use Rattle.tcel_num.specs.Plan.{Plan, Point, frame}
 use Rattle.tcel_num.specs.Schedule.{served}
 use Rattle.tcel_core.specs.Frames.{start_of}
 use Rattle.tcel_core.specs.Language.{Task}
@@ -18,6 +19,7 @@ use Rattle.tcel_tool.specs.Walks.{Walks}
 use Rattle.tcel_tool.specs.WholePlan.{IsWholePlan}
 use Rattle.tcel_tool.proofs.Bodies.{Fits, IsUntimed, block_plain, block_goes_on, upto_later}
 use Rattle.tcel_tool.proofs.Progress.{IsDue}
+use Rattle.tcel_tool.proofs.ReachedInTime.{reached_in_time}
 use Rattle.tcel_tool.proofs.SetMeets.{image_of_sites, shows}
 use Rattle.tcel_tool.proofs.SetRuns.{Site, Numbered, task_of, plan_of, behavior_of}
 use Rattle.tcel_tool.proofs.WholeFrames.{EachDue, dues_of, events_due, whole_frames, whole_first}
@@ -31,6 +33,24 @@ module _ (costs : Costs) (ranges : CostsInRange costs) (plans : List Plan) (stre
     pub whole : IsWholePlan t costs plan
     pub in_time : (f : ℕ) → f * plan.total + (whole.end + costs.mark) ≤ served plans (f * t.period + t.deadline) n
     pub long : length (slice_index_or streams n []) ≡ length t.inputs
+
+  -- where no point is ever late, and a task is served any number of cycles, its frames are served up to their marks by their deadlines
+  pub never_late_serves : IsNeverLate plans → (n : ℕ) (t : Task) (plan : Plan) → slice_get plans n ≡ Some plan → ((cycles : ℕ) → (later : ℕ) × (cycles ≤ served plans later n)) →
+      Fits t.body t.vars → IsUntimed t.body → 0 < t.period → IsWholePlan t costs plan → length (slice_index_or streams n []) ≡ length t.inputs → Serves n t plan
+  never_late_serves never n t plan of_plan enough fits untimed positive whole long = record {
+    fits = fits;
+    untimed = untimed;
+    positive = positive;
+    whole = whole;
+    in_time =
+        λ f.
+        let point : Point = record { prefix = whole.end + costs.mark; bound = t.deadline; name = frame } in
+        let later = enough (f * plan.total + (whole.end + costs.mark)) in
+        let there : f * plan.period + t.deadline ≡ f * t.period + t.deadline = ap (λ n. f * n + t.deadline) whole.period in
+        subst (λ time. f * plan.total + (whole.end + costs.mark) ≤ served plans time n) there
+        (reached_in_time plans never n f 0 plan point of_plan (ap (λ points. slice_get points 0) whole.points) later.0 later.1);
+    long = long;
+  }
 
   -- each of the tasks, from a number on
   abbrev pub AllServe : ℕ → List Task → List Plan → Type 0
