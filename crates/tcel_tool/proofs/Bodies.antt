@@ -1,34 +1,31 @@
--- Bodies that have been proved so far: what they leave of words and inputs, and which dues suit their events.
-use Rattle.std.proofs.Common.{◌≡◌, ℕ, suc, ◌+◌, ◌≤◌, Bool, true, false, cond, ℤ, List, [], ◌∷◌, ◌++◌, length, get_or, refl, sym, ap, ◌∙◌, subst, arith, Option, Some, None, inl, inr}
+-- Bodies of checked programs: what they leave of words and inputs, which events they make, and how their walks go.
+use Rattle.std.proofs.Common.{pos, ◌^◌, ◌<◌, ◌≡◌, ℕ, zero, suc, ◌+◌, ◌≤◌, Bool, true, false, cond, ℤ, List, [], ◌∷◌, ◌++◌, length, get_or, refl, sym, ap, ◌∙◌, subst, arith, Option, Some, None, inl, inr}
 use Rattle.std.specs.Prelude.{max, unwrap_or}
 use Rattle.std.proofs.lemmas.Bool.{cond_both, true≢false}
 use Rattle.std.proofs.lemmas.List.{length-set}
 use Rattle.tcel_num.specs.Arithmetic.{holds}
 use Rattle.tcel_core.specs.declared.var.Var.{Var}
-use Rattle.tcel_core.specs.Cells.{all_words, place, width}
+use Rattle.tcel_core.specs.Cells.{all_words, place, width, set_word}
 use Rattle.tcel_core.specs.Language.{Block, done, next, Window, Stmt, item, choice, timed, Act, assign, assign_at, receive, send, for_loop, while_loop, copy}
-use Rattle.tcel_core.specs.Meaning.{value, head_or_zero, exec, exec_stmt, exec_act}
-use Rattle.tcel_core.specs.Outcome.{Memory, Occurrence, enclosed}
+use Rattle.tcel_core.specs.Meaning.{exec, exec_act, exec_stmt, head_or_zero, value, with_cells}
+use Rattle.tcel_core.specs.Outcome.{Memory, Occurrence, Outcome, enclosed, quiet, rounds, rounds_while, then_run}
 use Rattle.tcel_core.specs.Promises.{what_of}
 use Rattle.tcel_core.specs.Windows.{earliest}
 use Rattle.tcel_image.specs.declared.costs.Costs.{Costs}
 use Rattle.tcel_image.specs.Instructions.{cycles}
-use Rattle.tcel_tool.specs.Code.{stmt_loops, loops, has_event, stmt_has_event, act_has_event, act_loops, hold_of}
+use Rattle.tcel_tool.specs.Code.{has_event, stmt_has_event, act_has_event, hold_of}
 use Rattle.tcel_tool.specs.Costs.{expr_cycles}
-use Rattle.tcel_tool.specs.Walks.{Counts, Walks, StmtWalks, ActWalks, Then, Either, Passes, Shows, held_entry, jump_cost}
+use Rattle.tcel_tool.specs.Walks.{Counts, Walks, StmtWalks, ActWalks, Then, Either, Rounds, RoundsUpTo, Passes, Shows, held_entry, jump_cost}
 use Rattle.tcel_tool.proofs.Ahead.{Due}
 use Rattle.tcel_tool.proofs.Inputs.{Remain, take_one, takes, takes-append, remain_after}
 use Rattle.tcel_tool.proofs.Scope.{IsScalar, IsSound, AreAlike, array_within, length-with_element, length-copied}
 
--- ---- statements that have been proved so far: later stages widen this
+-- ---- which bodies: scalars where scalars are named, operators with their operands, loops with turns, copies between arrays of one width
 
-abbrev pub ActFits : Act → List Var → Type 0
-ActFits (assign v e) vars = IsScalar vars v × IsSound vars e
-ActFits (assign_at v i e) vars = IsSound vars i × IsSound vars e
-ActFits (receive v port) vars = IsScalar vars v
-ActFits (send e port) vars = IsSound vars e
-ActFits (copy a b) vars = AreAlike vars a b
-ActFits _ vars = ⊥
+-- turns that a counter can count
+pub record AreTurns (n : ℕ) : Type 0 where
+  pub some : 0 < n
+  pub countable : n < 2 ^ 63
 
 abbrev mutual
   pub Fits : Block → List Var → Type 0
@@ -39,6 +36,15 @@ abbrev mutual
   StmtFits (item id act) vars = ActFits act vars
   StmtFits (choice id test held other) vars = IsSound vars test × Fits held vars × Fits other vars
   StmtFits (timed id window body) vars = Fits body vars
+
+  pub ActFits : Act → List Var → Type 0
+  ActFits (assign v e) vars = IsScalar vars v × IsSound vars e
+  ActFits (assign_at v i e) vars = IsSound vars i × IsSound vars e
+  ActFits (receive v port) vars = IsScalar vars v
+  ActFits (send e port) vars = IsSound vars e
+  ActFits (for_loop v n body) vars = IsScalar vars v × AreTurns n × Fits body vars
+  ActFits (while_loop test n body) vars = IsSound vars test × AreTurns n × Fits body vars
+  ActFits (copy a b) vars = AreAlike vars a b
 
 -- ---- dues of events
 
@@ -100,18 +106,38 @@ takes-enclosed id window leads (e ∷ events) taken = takes-enclosed id window f
 
 -- ---- what statements leave of the words and inputs
 
-act_words : (act : Act) (vars : List Var) → ActFits act vars → (m : Memory) → length m.cells ≡ all_words vars → length (exec_act act vars m).memory.cells ≡ all_words vars
-act_words (assign v e) vars h m long = length-set m.cells (place vars v) (value e vars m.cells) ∙ long
-act_words (assign_at v i e) vars h m long = length-with_element m.cells (place vars v) (width vars v) (value i vars m.cells) (value e vars m.cells) ∙ long
-act_words (receive v port) vars h m long = length-set m.cells (place vars v) (head_or_zero (get_or m.inputs port [])) ∙ long
-act_words (send e port) vars h m long = long
-act_words (for_loop v n body) vars h m long = absurd h
-act_words (while_loop test n body) vars h m long = absurd h
-act_words (copy a b) vars h m long =
-    let one = array_within vars a in
-    let two = array_within vars b in
-    let same = h.same in
-    length-copied m.cells (place vars a) (place vars b) (width vars a) (omega arith) (omega arith) ∙ long
+-- ---- what rounds keep
+
+-- what each round keeps, all of them keep
+pub rounds_keep : (P : Memory → List ℕ → Type 0) (round : ℕ → Memory → Outcome) → ((j : ℕ) (m : Memory) (t : List ℕ) → P m t → P (round j m).memory (takes (round j m).events t)) →
+    (n : ℕ) (m : Memory) (t : List ℕ) → P m t → P (rounds n round m).memory (takes (rounds n round m).events t)
+rounds_keep P round keep zero m t h = h
+rounds_keep P round keep (suc n) m t h =
+    let o = rounds n round m in
+    let last = round n o.memory in
+    subst (P last.memory) (sym (takes-append o.events last.events t)) (keep n o.memory (takes o.events t) (rounds_keep P round keep n m t h))
+
+pub while_keeps : (P : Memory → List ℕ → Type 0) (test : Memory → Bool) (round : Memory → Outcome) → ((m : Memory) (t : List ℕ) → P m t → P (round m).memory (takes (round m).events t)) →
+    (n : ℕ) (m : Memory) (t : List ℕ) → P m t → P (rounds_while n test round m).memory (takes (rounds_while n test round m).events t)
+while_keeps P test round keep zero m t h = h
+while_keeps P test round keep (suc n) m t h =
+    let o = round m in
+    let rest = rounds_while n test round o.memory in
+    cond_both (test m) (λ k. then_run (round k) (rounds_while n test round)) quiet (λ f. P (f m).memory (takes (f m).events t))
+    (λ _. subst (P rest.memory) (sym (takes-append o.events rest.events t)) (while_keeps P test round keep n o.memory (takes o.events t) (keep m t h))) (λ _. h)
+
+-- what holds of each round's events holds of all of them
+rounds_events : (E : List Occurrence → Type 0) → E [] → ((a b : List Occurrence) → E a → E b → E (a ++ b)) → (round : ℕ → Memory → Outcome) → ((j : ℕ) (m : Memory) → E (round j m).events) →
+    (n : ℕ) (m : Memory) → E (rounds n round m).events
+rounds_events E none both round each zero m = none
+rounds_events E none both round each (suc n) m = let o = rounds n round m in both o.events (round n o.memory).events (rounds_events E none both round each n m) (each n o.memory)
+
+while_events : (E : List Occurrence → Type 0) → E [] → ((a b : List Occurrence) → E a → E b → E (a ++ b)) → (test : Memory → Bool) (round : Memory → Outcome) → ((m : Memory) → E (round m).events) →
+    (n : ℕ) (m : Memory) → E (rounds_while n test round m).events
+while_events E none both test round each zero m = none
+while_events E none both test round each (suc n) m =
+    cond_both (test m) (λ k. then_run (round k) (rounds_while n test round)) quiet (λ f. E (f m).events)
+    (λ _. both (round m).events (rounds_while n test round (round m).memory).events (each m) (while_events E none both test round each n (round m).memory)) (λ _. none)
 
 mutual
   -- they leave as many words
@@ -126,15 +152,21 @@ mutual
       (λ _. block_words held vars h.1 m long) (λ _. block_words other vars h.2 m long)
   stmt_words (timed id window body) vars h m long = block_words body vars h m long
 
-act_remains : (act : Act) (vars : List Var) → ActFits act vars → (inputs : List (List ℤ)) (m : Memory) (taken : List ℕ) → Remain inputs m.inputs taken →
-    Remain inputs (exec_act act vars m).memory.inputs (takes (exec_act act vars m).events taken)
-act_remains (assign v e) vars h inputs m taken remain = remain
-act_remains (assign_at v i e) vars h inputs m taken remain = remain
-act_remains (receive v port) vars h inputs m taken remain = remain_after inputs m.inputs taken port remain
-act_remains (send e port) vars h inputs m taken remain = remain
-act_remains (for_loop v n body) vars h inputs m taken remain = absurd h
-act_remains (while_loop test n body) vars h inputs m taken remain = absurd h
-act_remains (copy a b) vars h inputs m taken remain = remain
+  act_words : (act : Act) (vars : List Var) → ActFits act vars → (m : Memory) → length m.cells ≡ all_words vars → length (exec_act act vars m).memory.cells ≡ all_words vars
+  act_words (assign v e) vars h m long = length-set m.cells (place vars v) (value e vars m.cells) ∙ long
+  act_words (assign_at v i e) vars h m long = length-with_element m.cells (place vars v) (width vars v) (value i vars m.cells) (value e vars m.cells) ∙ long
+  act_words (receive v port) vars h m long = length-set m.cells (place vars v) (head_or_zero (get_or m.inputs port [])) ∙ long
+  act_words (send e port) vars h m long = long
+  act_words (for_loop v n body) vars h m long =
+      rounds_keep (λ k _. length k.cells ≡ all_words vars) (λ j k. exec body vars (with_cells k (set_word vars k.cells v (pos j))))
+      (λ j k t same. block_words body vars h.2 (with_cells k (set_word vars k.cells v (pos j))) (length-set k.cells (place vars v) (pos j) ∙ same)) n m [] long
+  act_words (while_loop test n body) vars h m long =
+      while_keeps (λ k _. length k.cells ≡ all_words vars) (λ k. holds (value test vars k.cells)) (exec body vars) (λ k t same. block_words body vars h.2 k same) n m [] long
+  act_words (copy a b) vars h m long =
+      let one = array_within vars a in
+      let two = array_within vars b in
+      let same = h.same in
+      length-copied m.cells (place vars a) (place vars b) (width vars a) (omega arith) (omega arith) ∙ long
 
 mutual
   -- statements take from the inputs what the machine takes
@@ -156,16 +188,23 @@ mutual
       subst (λ t. Remain inputs (exec body vars m).memory.inputs t) (sym (takes-enclosed id window true (exec body vars m).events taken))
       (block_remains body vars h inputs m taken remain)
 
+  act_remains : (act : Act) (vars : List Var) → ActFits act vars → (inputs : List (List ℤ)) (m : Memory) (taken : List ℕ) → Remain inputs m.inputs taken →
+      Remain inputs (exec_act act vars m).memory.inputs (takes (exec_act act vars m).events taken)
+  act_remains (assign v e) vars h inputs m taken remain = remain
+  act_remains (assign_at v i e) vars h inputs m taken remain = remain
+  act_remains (receive v port) vars h inputs m taken remain = remain_after inputs m.inputs taken port remain
+  act_remains (send e port) vars h inputs m taken remain = remain
+  act_remains (for_loop v n body) vars h inputs m taken remain =
+      rounds_keep (λ k t. Remain inputs k.inputs t) (λ j k. exec body vars (with_cells k (set_word vars k.cells v (pos j))))
+      (λ j k t same. block_remains body vars h.2 inputs (with_cells k (set_word vars k.cells v (pos j))) t same) n m taken remain
+  act_remains (while_loop test n body) vars h inputs m taken remain =
+      while_keeps (λ k t. Remain inputs k.inputs t) (λ k. holds (value test vars k.cells)) (exec body vars) (λ k t same. block_remains body vars h.2 inputs k t same) n m taken remain
+  act_remains (copy a b) vars h inputs m taken remain = remain
+
 -- ---- where no event can come, none comes
 
-act_quiet : (act : Act) (vars : List Var) → ActFits act vars → act_has_event act ≡ false → (m : Memory) → (exec_act act vars m).events ≡ []
-act_quiet (assign v e) vars h none m = refl
-act_quiet (assign_at v i e) vars h none m = refl
-act_quiet (receive v port) vars h none m = absurd (true≢false none)
-act_quiet (send e port) vars h none m = absurd (true≢false none)
-act_quiet (for_loop v n body) vars h none m = absurd h
-act_quiet (while_loop test n body) vars h none m = absurd h
-act_quiet (copy a b) vars h none m = refl
+no_events : (a b : List Occurrence) → a ≡ [] → b ≡ [] → a ++ b ≡ []
+no_events a b h g = ap (λ l. l ++ b) h ∙ g
 
 -- neither of two tests holds
 neither : (a b : Bool) → cond a true b ≡ false → (a ≡ false) × (b ≡ false)
@@ -188,6 +227,18 @@ mutual
       (λ _. block_quiet held vars h.1 both.0 m) (λ _. block_quiet other vars h.2 both.1 m)
   stmt_quiet (timed id window body) vars h none m = ap (enclosed id window true) (block_quiet body vars h none m)
 
+  act_quiet : (act : Act) (vars : List Var) → ActFits act vars → act_has_event act ≡ false → (m : Memory) → (exec_act act vars m).events ≡ []
+  act_quiet (assign v e) vars h none m = refl
+  act_quiet (assign_at v i e) vars h none m = refl
+  act_quiet (receive v port) vars h none m = absurd (true≢false none)
+  act_quiet (send e port) vars h none m = absurd (true≢false none)
+  act_quiet (for_loop v n body) vars h none m =
+      rounds_events (λ es. es ≡ []) refl no_events (λ j k. exec body vars (with_cells k (set_word vars k.cells v (pos j))))
+      (λ j k. block_quiet body vars h.2 none (with_cells k (set_word vars k.cells v (pos j)))) n m
+  act_quiet (while_loop test n body) vars h none m =
+      while_events (λ es. es ≡ []) refl no_events (λ k. holds (value test vars k.cells)) (exec body vars) (λ k. block_quiet body vars h.2 none k) n m
+  act_quiet (copy a b) vars h none m = refl
+
 -- ---- bodies with no `do` block
 
 abbrev mutual
@@ -196,9 +247,14 @@ abbrev mutual
   IsUntimed (next s rest) = StmtIsUntimed s × IsUntimed rest
 
   pub StmtIsUntimed : Stmt → Type 0
-  StmtIsUntimed (item id act) = Unit {0}
+  StmtIsUntimed (item id act) = ActIsUntimed act
   StmtIsUntimed (choice id test held other) = IsUntimed held × IsUntimed other
   StmtIsUntimed (timed id window body) = ⊥
+
+  pub ActIsUntimed : Act → Type 0
+  ActIsUntimed (for_loop v n body) = IsUntimed body
+  ActIsUntimed (while_loop test n body) = IsUntimed body
+  ActIsUntimed _ = Unit {0}
 
 -- events with no block around them
 abbrev pub ArePlain : List Occurrence → Type 0
@@ -209,15 +265,6 @@ plain-append : (a b : List Occurrence) → ArePlain a → ArePlain b → ArePlai
 plain-append [] b h g = g
 plain-append (e ∷ a) b h g = (h.0, plain-append a b h.1 g)
 
-act_plain : (act : Act) (vars : List Var) → ActFits act vars → (m : Memory) → ArePlain (exec_act act vars m).events
-act_plain (assign v e) vars h m = tt
-act_plain (assign_at v i e) vars h m = tt
-act_plain (receive v port) vars h m = (refl, tt)
-act_plain (send e port) vars h m = (refl, tt)
-act_plain (for_loop v n body) vars h m = absurd h
-act_plain (while_loop test n body) vars h m = absurd h
-act_plain (copy a b) vars h m = tt
-
 mutual
   pub block_plain : (b : Block) (vars : List Var) → Fits b vars → IsUntimed b → (m : Memory) → ArePlain (exec b vars m).events
   block_plain done vars h plain m = tt
@@ -226,33 +273,25 @@ mutual
       plain-append o.events (exec rest vars o.memory).events (stmt_plain s vars h.0 plain.0 m) (block_plain rest vars h.1 plain.1 o.memory)
 
   stmt_plain : (s : Stmt) (vars : List Var) → StmtFits s vars → StmtIsUntimed s → (m : Memory) → ArePlain (exec_stmt s vars m).events
-  stmt_plain (item id act) vars h plain m = act_plain act vars h m
+  stmt_plain (item id act) vars h plain m = act_plain act vars h plain m
   stmt_plain (choice id test held other) vars h plain m =
       cond_both (holds (value test vars m.cells)) (exec held vars) (exec other vars) (λ f. ArePlain (f m).events)
       (λ _. block_plain held vars h.1 plain.0 m) (λ _. block_plain other vars h.2 plain.1 m)
   stmt_plain (timed id window body) vars h plain m = absurd plain
 
--- ---- counters and walks
+  act_plain : (act : Act) (vars : List Var) → ActFits act vars → ActIsUntimed act → (m : Memory) → ArePlain (exec_act act vars m).events
+  act_plain (assign v e) vars h plain m = tt
+  act_plain (assign_at v i e) vars h plain m = tt
+  act_plain (receive v port) vars h plain m = (refl, tt)
+  act_plain (send e port) vars h plain m = (refl, tt)
+  act_plain (for_loop v n body) vars h plain m =
+      rounds_events ArePlain tt plain-append (λ j k. exec body vars (with_cells k (set_word vars k.cells v (pos j))))
+      (λ j k. block_plain body vars h.2 plain (with_cells k (set_word vars k.cells v (pos j)))) n m
+  act_plain (while_loop test n body) vars h plain m =
+      while_events ArePlain tt plain-append (λ k. holds (value test vars k.cells)) (exec body vars) (λ k. block_plain body vars h.2 plain k) n m
+  act_plain (copy a b) vars h plain m = tt
 
-act_no_loops : (act : Act) (vars : List Var) → ActFits act vars → act_loops act ≡ 0
-act_no_loops (assign v e) vars h = refl
-act_no_loops (assign_at v i e) vars h = refl
-act_no_loops (receive v port) vars h = refl
-act_no_loops (send e port) vars h = refl
-act_no_loops (for_loop v n body) vars h = absurd h
-act_no_loops (while_loop test n body) vars h = absurd h
-act_no_loops (copy a b) vars h = refl
-
-mutual
-  -- they have no counters
-  pub no_loops : (b : Block) (vars : List Var) → Fits b vars → loops b ≡ 0
-  no_loops done vars h = refl
-  no_loops (next s rest) vars h = omega (arith, stmt_no_loops s vars h.0, no_loops rest vars h.1)
-
-  stmt_no_loops : (s : Stmt) (vars : List Var) → StmtFits s vars → stmt_loops s ≡ 0
-  stmt_no_loops (item id act) vars h = act_no_loops act vars h
-  stmt_no_loops (choice id test held other) vars h = omega (arith, no_loops held vars h.1, no_loops other vars h.2)
-  stmt_no_loops (timed id window body) vars h = no_loops body vars h
+-- ---- walks
 
 -- counts up to an end
 abbrev pub AreUpTo : ℕ → List ℕ → Type 0
@@ -290,14 +329,9 @@ then_on first second entry end events h g walk =
       events_by_end = subst (AreUpTo end) (sym walk.joined) (upto-append end walk.before walk.after (upto_later walk.middle end walk.before two.later one.events_by_end) two.events_by_end);
     }
 
-act_goes_on : (act : Act) (vars : List Var) → ActFits act vars → (costs : Costs) (entry end : ℕ) (events : List ℕ) → ActWalks act vars costs entry end events → GoesOn entry end events
-act_goes_on (assign v e) vars h costs entry end events walk = passes_on _ entry end events walk
-act_goes_on (assign_at v i e) vars h costs entry end events walk = passes_on _ entry end events walk
-act_goes_on (receive v port) vars h costs entry end events walk = shows_on _ entry end events walk
-act_goes_on (send e port) vars h costs entry end events walk = shows_on _ entry end events walk
-act_goes_on (for_loop v n body) vars h costs entry end events walk = absurd h
-act_goes_on (while_loop test n body) vars h costs entry end events walk = absurd h
-act_goes_on (copy a b) vars h costs entry end events walk = passes_on _ entry end events walk
+rounds_on : (n : ℕ) (round : Counts) → ((from to : ℕ) (es : List ℕ) → round from to es → GoesOn from to es) → (entry end : ℕ) (events : List ℕ) → Rounds n round entry end events → GoesOn entry end events
+rounds_on zero round h entry end events walk = passes_on 0 entry end events walk
+rounds_on (suc n) round h entry end events walk = then_on round (Rounds n round) entry end events h (rounds_on n round h) walk
 
 held_later : (hold : Option ℕ) (entry : ℕ) → entry ≤ held_entry hold entry
 held_later None entry = omega arith
@@ -325,3 +359,32 @@ mutual
       let inner = block_goes_on body vars h costs (held_entry (hold_of window body) entry) end events walk in
       let low = held_later (hold_of window body) entry in
       record { later = let g = inner.later in omega arith; events_by_end = inner.events_by_end }
+
+  act_goes_on : (act : Act) (vars : List Var) → ActFits act vars → (costs : Costs) (entry end : ℕ) (events : List ℕ) → ActWalks act vars costs entry end events → GoesOn entry end events
+  act_goes_on (assign v e) vars h costs entry end events walk = passes_on _ entry end events walk
+  act_goes_on (assign_at v i e) vars h costs entry end events walk = passes_on _ entry end events walk
+  act_goes_on (receive v port) vars h costs entry end events walk = shows_on _ entry end events walk
+  act_goes_on (send e port) vars h costs entry end events walk = shows_on _ entry end events walk
+  act_goes_on (for_loop v n body) vars h costs entry end events walk =
+      let inner = Then (Walks body vars costs) (Passes costs.loop_) in
+      let round = Then (Passes (costs.load + costs.store)) inner in
+      then_on (Passes (costs.const_ + costs.store)) (Rounds n round) entry end events (passes_on _)
+      (rounds_on n round
+      (λ from to es w. then_on (Passes (costs.load + costs.store)) inner from to es (passes_on _)
+      (λ from' to' es' w'. then_on (Walks body vars costs) (Passes costs.loop_) from' to' es' (block_goes_on body vars h.2 costs) (passes_on _) w') w))
+      walk
+  act_goes_on (while_loop test n body) vars h costs entry end events walk =
+      let tested = Passes (expr_cycles costs vars test + costs.branch) in
+      let inner = Then (Walks body vars costs) (Passes costs.loop_) in
+      let round = Then tested inner in
+      let each : (from to : ℕ) (es : List ℕ) → round from to es → GoesOn from to es =
+      λ from to es w. then_on tested inner from to es (passes_on _)
+      (λ from' to' es' w'. then_on (Walks body vars costs) (Passes costs.loop_) from' to' es' (block_goes_on body vars h.2 costs) (passes_on _) w') w in
+      then_on (Passes (costs.const_ + costs.store)) (RoundsUpTo n round tested) entry end events (passes_on _)
+      (λ from to es w.
+      elim w as (λ _. GoesOn from to es) [
+        | inl fewer ↦ then_on (Rounds fewer.0 round) tested from to es (rounds_on fewer.0 round each) (passes_on _) fewer.2
+        | inr all ↦ rounds_on n round each from to es all
+      ])
+      walk
+  act_goes_on (copy a b) vars h costs entry end events walk = passes_on _ entry end events walk

@@ -35,7 +35,7 @@ use Rattle.tcel_tool.specs.declared.plain_tree.PlainExpr.TheVariants as exprs
 use Rattle.tcel_tool.specs.declared.plain_tree.Operand.{Operand}
 use Rattle.tcel_tool.specs.declared.plain_tree.Operand.TheVariants as operands
 use Rattle.std.specs.List.{AllByRecursion}
-use Rattle.tcel_tool.proofs.Bodies.{ActFits, Fits, IsUntimed}
+use Rattle.tcel_tool.proofs.Bodies.{ActIsUntimed, ActFits, Fits, IsUntimed}
 use Rattle.tcel_tool.proofs.Scope.{IsScalar, IsSound}
 use Rattle.tcel_tool.proofs.ServedAlone.{served_whole}
 use Rattle.tcel_tool.proofs.WholeSets.{Serves, set_meets}
@@ -106,9 +106,14 @@ block_fits : (id : ℕ) (decls : List PlainDecl) (body : List PlainStmt) → All
 block_fits id decls [] plain = tt
 block_fits id decls (s ∷ ss) plain = (act_fits decls s plain.0, block_fits (id + 1) decls ss plain.1)
 
+act_untimed : (decls : List PlainDecl) (s : PlainStmt) → ActIsUntimed (act_of decls s)
+act_untimed decls (stmts.Assign name e) = tt
+act_untimed decls (stmts.Receive name port) = tt
+act_untimed decls (stmts.Send e port) = tt
+
 block_untimed : (id : ℕ) (decls : List PlainDecl) (body : List PlainStmt) → IsUntimed (block_from id decls body)
 block_untimed id decls [] = tt
-block_untimed id decls (s ∷ ss) = (tt, block_untimed (id + 1) decls ss)
+block_untimed id decls (s ∷ ss) = (act_untimed decls s, block_untimed (id + 1) decls ss)
 
 -- ---- the program and its image
 

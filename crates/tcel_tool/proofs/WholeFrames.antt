@@ -1,8 +1,8 @@
 -- The frames of a task that is not sliced, on the machine.
-use Rattle.std.proofs.Common.{◌≡◌, ℕ, zero, suc, ◌+◌, ◌-◌, ◌*◌, ◌<◌, ◌≤◌, ℤ, pos, List, [], ◌∷◌, ◌++◌, length, get_or, map, drop, append-nil, refl, sym, ap, ◌∙◌, subst, arith, Some}
+use Rattle.std.proofs.Common.{◌≡◌, ℕ, zero, suc, ◌+◌, ◌-◌, ◌*◌, ◌<◌, ◌≤◌, ℤ, pos, List, [], ◌∷◌, ◌++◌, length, get_or, map, drop, refl, sym, ap, ◌∙◌, subst, arith, Some}
 use Rattle.std.specs.Prelude.{slice_get, nat_le, take, replicate}
 use Rattle.std.proofs.Math.ListN.{get_or-map}
-use Rattle.std.proofs.lemmas.List.{length-map, map-append, nil_from_length}
+use Rattle.std.proofs.lemmas.List.{append_assoc, length-append, length-map, length-replicate, map-append, replicate-append-replicate, take-append-le}
 use Rattle.std.proofs.lemmas.Option.{same_Some, none-some}
 use Rattle.tcel_num.specs.Entry.{end as end_entry}
 use Rattle.tcel_num.specs.Plan.{Plan}
@@ -19,7 +19,6 @@ use Rattle.tcel_image.specs.declared.image.ImageTask.{ImageTask}
 use Rattle.tcel_image.specs.declared.image.Instr.TheVariants.{Mark, End}
 use Rattle.tcel_image.specs.Costs.{CostsInRange}
 use Rattle.tcel_image.specs.Machine.{Running, effect, start_task}
-use Rattle.tcel_image.specs.Machine.{Outcome as MachineOutcome}
 use Rattle.tcel_image.specs.Spelling.{state_words as image_words}
 use Rattle.tcel_image.specs.declared.image.ImageState.{ImageState}
 use Rattle.tcel_image.specs.declared.image.Line.{Line}
@@ -29,12 +28,12 @@ use Rattle.tcel_tool.specs.Layout.{image_task, states_of}
 use Rattle.tcel_tool.specs.Walks.{Walks}
 use Rattle.tcel_tool.specs.WholePlan.{IsWholePlan}
 use Rattle.tcel_tool.proofs.Ahead.{Due, Ahead, IsAt, makes_last, showing, after_cycles}
-use Rattle.tcel_tool.proofs.Bodies.{Fits, AllSuit, block_words, block_remains, no_loops, ArePlain, AreUpTo}
+use Rattle.tcel_tool.proofs.Bodies.{Fits, AllSuit, block_words, block_remains, ArePlain, AreUpTo}
 use Rattle.tcel_tool.proofs.BodyRuns.{Runs, show_step, block_runs}
 use Rattle.tcel_tool.proofs.Inputs.{Remain, takes}
 use Rattle.tcel_tool.proofs.ExprRuns.{Stands, stands_front, stands_back, stands_all, ready_at}
 use Rattle.tcel_tool.proofs.Progress.{Frames, IsDue, promise_of}
-use Rattle.tcel_tool.proofs.StateWords.{states_first, length-declared_state, states_words, length-start_cells, length-state_of}
+use Rattle.tcel_tool.proofs.StateWords.{states_first, length-declared_state, states_words, length-start_cells, length-state_of, states_within}
 
 -- ---- dues
 
@@ -131,8 +130,12 @@ module _ (costs : Costs) (ranges : CostsInRange costs) (t : Task) (fits : Fits t
       let cells = (does f).memory.cells in
       length-start_cells t.vars (state_of t.vars cells) (length-state_of t.vars cells (block_words t.body t.vars fits (from f) (words f)))
 
+  -- the words of the loops' counters
+  abbrev counters : List ℤ
+  counters = replicate (loops t.body) (pos 0)
+
   abbrev start : ℕ → Running
-  start f = ready_at 0 [] (from f).cells f (taken f)
+  start f = ready_at 0 [] ((from f).cells ++ counters) f (taken f)
 
   abbrev body_code : List Line
   body_code = block_code t.body t.vars 0 (all_words t.vars)
@@ -144,14 +147,11 @@ module _ (costs : Costs) (ranges : CostsInRange costs) (t : Task) (fits : Fits t
   stands = stands_all (body_code ++ last_code) []
 
   -- a frame's body on the machine
-  runs : (f : ℕ) → Runs costs ranges task streams (start (suc f)) t.vars f [] (Walks t.body t.vars costs) body_code (does f) 0 0 0 (from f).cells [] (taken f)
+  runs : (f : ℕ) → Runs costs ranges task streams (start (suc f)) t.vars f [] (Walks t.body t.vars costs) body_code (does f) 0 0 0 0 (from f).cells counters (taken f)
   runs f =
-      block_runs costs ranges task streams (start (suc f)) t.vars f [] t.body fits (from f) 0 0 0 (all_words t.vars) [] (taken f) (words f) (remain f)
+      block_runs costs ranges task streams (start (suc f)) t.vars f [] t.body fits (from f) 0 0 0 0 (all_words t.vars) counters (taken f) (words f) (omega arith)
+      (let long = length-replicate (loops t.body) (pos 0) in omega arith) (remain f)
       (stands_front task.code 0 body_code last_code stands)
-
-  -- it has no counters
-  left_empty : (f : ℕ) → (does f).memory.cells ++ (runs f).left ≡ (does f).memory.cells
-  left_empty f = ap (λ l. (does f).memory.cells ++ l) (nil_from_length (runs f).left (runs f).as_many) ∙ append-nil (does f).memory.cells
 
   abbrev mark_due : ℕ → Due
   mark_due f = record { by = (runs f).end + costs.mark; promise = first_promise f (f * t.period) t.deadline }
@@ -165,21 +165,40 @@ module _ (costs : Costs) (ranges : CostsInRange costs) (t : Task) (fits : Fits t
   abbrev dues : ℕ → List Due
   dues f = event_dues f ++ (mark_due f ∷ end_due f ∷ [])
 
+  -- the states at the end, and 0 elsewhere
+  end_cells : (f : ℕ) → take (image_words task.states) ((does f).memory.cells ++ (runs f).left) ++ replicate (length ((does f).memory.cells ++ (runs f).left) - image_words task.states) (pos 0) ≡ (from (suc f)).cells ++ counters
+  end_cells f =
+      let cells = (does f).memory.cells in
+      let left = (runs f).left in
+      let same = states_words t.vars in
+      let long = block_words t.body t.vars fits (from f) (words f) in
+      let many = (runs f).as_many ∙ length-replicate (loops t.body) (pos 0) in
+      let within = states_within t.vars in
+      let rest : length (cells ++ left) - state_words t.vars ≡ (all_words t.vars - state_words t.vars) + loops t.body = omega (arith, length-append cells left) in
+      ap (λ w. take w (cells ++ left) ++ replicate (length (cells ++ left) - w) (pos 0)) same
+      ∙ ap (λ l. l ++ replicate (length (cells ++ left) - state_words t.vars) (pos 0)) (take-append-le (state_words t.vars) cells left (omega arith))
+      ∙ ap (λ n. take (state_words t.vars) cells ++ replicate n (pos 0)) rest
+      ∙ ap (λ l. take (state_words t.vars) cells ++ l) (sym (replicate-append-replicate (all_words t.vars - state_words t.vars) (loops t.body) (pos 0)))
+      ∙ sym (append_assoc (take (state_words t.vars) cells) (replicate (all_words t.vars - state_words t.vars) (pos 0)) counters)
+
+  end_states : (f : ℕ) → take (image_words task.states) ((does f).memory.cells ++ (runs f).left) ≡ state_of t.vars (does f).memory.cells
+  end_states f =
+      let within = states_within t.vars in
+      let long = block_words t.body t.vars fits (from f) (words f) in
+      ap (λ w. take w ((does f).memory.cells ++ (runs f).left)) (states_words t.vars) ∙ take-append-le (state_words t.vars) (does f).memory.cells (runs f).left (omega arith)
+
   -- the last instruction leaves the start of the next frame
   frame_ends : (f p spent : ℕ) →
-      effect (image_words task.states) streams End (after_cycles spent (ready_at p [] (does f).memory.cells f (taken (suc f)))) ≡ showing (end_entry (state_of t.vars (does f).memory.cells)) (start (suc f))
+      effect (image_words task.states) streams End (after_cycles spent (ready_at p [] ((does f).memory.cells ++ (runs f).left) f (taken (suc f)))) ≡ showing (end_entry (state_of t.vars (does f).memory.cells)) (start (suc f))
   frame_ends f p spent =
-      let cells = (does f).memory.cells in
-      let left : ℕ → ℕ → ℕ → MachineOutcome =
-      λ w n e. showing (end_entry (take w cells)) (ready_at 0 [] (take w cells ++ replicate (n - w) (pos 0)) e (taken (suc f))) in
       let next_frame : f + 1 ≡ suc f = omega arith in
-      ap (λ w. left w (length cells) (f + 1)) (states_words t.vars)
-      ∙ ap (λ n. left (state_words t.vars) n (f + 1)) (block_words t.body t.vars fits (from f) (words f))
-      ∙ ap (λ e. left (state_words t.vars) (all_words t.vars) e) next_frame
+      ap (λ s. showing (end_entry s) (ready_at 0 [] (take (image_words task.states) ((does f).memory.cells ++ (runs f).left) ++ replicate (length ((does f).memory.cells ++ (runs f).left) - image_words task.states) (pos 0)) (f + 1) (taken (suc f)))) (end_states f)
+      ∙ ap (λ l. showing (end_entry (state_of t.vars (does f).memory.cells)) (ready_at 0 [] l (f + 1) (taken (suc f)))) (end_cells f)
+      ∙ ap (λ e. showing (end_entry (state_of t.vars (does f).memory.cells)) (ready_at 0 [] ((from (suc f)).cells ++ counters) e (taken (suc f)))) next_frame
 
   ahead : (f : ℕ) → Ahead costs task streams (start (suc f)) 0 (f * t.period) (start f) (dues f)
   ahead f =
-      let cells = (does f).memory.cells in
+      let cells = (does f).memory.cells ++ (runs f).left in
       let p : ℕ = 0 + length body_code in
       let behind = stands_back task.code 0 body_code last_code stands in
       let r = ready_at (p + 1) [] cells f (taken (suc f)) in
@@ -187,15 +206,12 @@ module _ (costs : Costs) (ranges : CostsInRange costs) (t : Task) (fits : Fits t
       let some : 0 < costs.end = (ranges keys.End).0 in
       let n : costs.end ≡ suc more = omega arith in
       let is : IsAt costs task End more r = record { depth = 0; here = behind.1.0; lasts = λ now spent. ap (λ k. nat_le k (spent + 1)) n } in
-      let no_others = append-nil (from f).cells in
-      subst (λ l. Ahead costs task streams (start (suc f)) 0 (f * t.period) (ready_at 0 [] l f (taken f)) (dues f)) no_others
-      ((runs f).ahead (event_dues f) (mark_due f ∷ end_due f ∷ []) (dues_suit f (f * t.period) t.deadline (runs f).counts (does f).events (runs f).each)
+      (runs f).ahead (event_dues f) (mark_due f ∷ end_due f ∷ []) (dues_suit f (f * t.period) t.deadline (runs f).counts (does f).events (runs f).each)
       (λ ran since h waited low.
-      subst (λ l. Ahead costs task streams (start (suc f)) ran since (ready_at p [] l f (taken (suc f))) (mark_due f ∷ end_due f ∷ [])) (sym (left_empty f))
-      (show_step costs ranges task streams (start (suc f)) t.vars f [] Mark 0 (λ now r. refl) (ranges keys.Mark).0 p (p + 1) ran since [] [] cells cells (taken (suc f)) (taken (suc f))
+      show_step costs ranges task streams (start (suc f)) t.vars f [] Mark 0 (λ now r. refl) (ranges keys.Mark).0 p (p + 1) ran since [] [] cells cells (taken (suc f)) (taken (suc f))
       (mark_due f) (end_due f ∷ []) behind.0 (λ spent. refl) (omega arith) (omega arith)
-      (makes_last costs task streams End more r is (start (suc f)) (end_due f) (ran + costs.mark) (since + costs.mark) (frame_ends f (p + 1) more) (omega arith) (omega arith))))
-      0 (f * t.period) (omega arith) (omega arith) (omega arith))
+      (makes_last costs task streams End more r is (start (suc f)) (end_due f) (ran + costs.mark) (since + costs.mark) (frame_ends f (p + 1) more) (omega arith) (omega arith)))
+      0 (f * t.period) (omega arith) (omega arith) (omega arith)
 
   made : (f : ℕ) → map promise_of (dues f) ≡ frame_promises (behavior_of t streams) f
   made f =
@@ -235,7 +251,10 @@ module _ (costs : Costs) (ranges : CostsInRange costs) (t : Task) (fits : Fits t
       let states = flat_map (λ (s : ImageState). s.first) (states_of t.vars) in
       let declared = states_first t.vars in
       let many = ap length declared ∙ length-declared_state t.vars in
-      let none = no_loops t.body t.vars fits in
-      let zeros : all_words t.vars - state_words t.vars ≡ all_words t.vars + loops t.body - length states = omega arith in
+      let within = states_within t.vars in
+      let zeros : (all_words t.vars - state_words t.vars) + loops t.body ≡ all_words t.vars + loops t.body - length states = omega arith in
       ap (λ cells. ready_at 0 [] cells 0 (map (λ _. 0) t.inputs))
-      (ap (λ l. l ++ replicate (all_words t.vars - state_words t.vars) (pos 0)) (sym declared) ∙ ap (λ n. states ++ replicate n (pos 0)) zeros)
+      (append_assoc (declared_state t.vars) (replicate (all_words t.vars - state_words t.vars) (pos 0)) counters
+      ∙ ap (λ l. declared_state t.vars ++ l) (replicate-append-replicate (all_words t.vars - state_words t.vars) (loops t.body) (pos 0))
+      ∙ ap (λ l. l ++ replicate ((all_words t.vars - state_words t.vars) + loops t.body) (pos 0)) (sym declared)
+      ∙ ap (λ n. states ++ replicate n (pos 0)) zeros)
