@@ -5,7 +5,7 @@ use Rattle.std.proofs.lemmas.Bool.{cond_both, true≢false}
 use Rattle.std.proofs.lemmas.List.{length-set}
 use Rattle.tcel_num.specs.Arithmetic.{holds}
 use Rattle.tcel_core.specs.declared.var.Var.{Var}
-use Rattle.tcel_core.specs.Cells.{place, width}
+use Rattle.tcel_core.specs.Cells.{all_words, place, width}
 use Rattle.tcel_core.specs.Language.{Block, done, next, Window, Stmt, item, choice, timed, Act, assign, assign_at, receive, send, for_loop, while_loop, copy}
 use Rattle.tcel_core.specs.Meaning.{value, head_or_zero, exec, exec_stmt, exec_act}
 use Rattle.tcel_core.specs.Outcome.{Memory, Occurrence, enclosed}
@@ -18,7 +18,7 @@ use Rattle.tcel_tool.specs.Costs.{expr_cycles}
 use Rattle.tcel_tool.specs.Walks.{Counts, Walks, StmtWalks, ActWalks, Then, Either, Passes, Shows, held_entry, jump_cost}
 use Rattle.tcel_tool.proofs.Ahead.{Due}
 use Rattle.tcel_tool.proofs.Inputs.{Remain, take_one, takes, takes-append, remain_after}
-use Rattle.tcel_tool.proofs.Scope.{IsScalar, IsSound, length-with_element}
+use Rattle.tcel_tool.proofs.Scope.{IsScalar, IsSound, AreAlike, array_within, length-with_element, length-copied}
 
 -- ---- statements that have been proved so far: later stages widen this
 
@@ -27,6 +27,7 @@ ActFits (assign v e) vars = IsScalar vars v × IsSound vars e
 ActFits (assign_at v i e) vars = IsSound vars i × IsSound vars e
 ActFits (receive v port) vars = IsScalar vars v
 ActFits (send e port) vars = IsSound vars e
+ActFits (copy a b) vars = AreAlike vars a b
 ActFits _ vars = ⊥
 
 abbrev mutual
@@ -99,26 +100,31 @@ takes-enclosed id window leads (e ∷ events) taken = takes-enclosed id window f
 
 -- ---- what statements leave of the words and inputs
 
-act_words : (act : Act) (vars : List Var) → ActFits act vars → (m : Memory) → length (exec_act act vars m).memory.cells ≡ length m.cells
-act_words (assign v e) vars h m = length-set m.cells (place vars v) (value e vars m.cells)
-act_words (assign_at v i e) vars h m = length-with_element m.cells (place vars v) (width vars v) (value i vars m.cells) (value e vars m.cells)
-act_words (receive v port) vars h m = length-set m.cells (place vars v) (head_or_zero (get_or m.inputs port []))
-act_words (send e port) vars h m = refl
-act_words (for_loop v n body) vars h m = absurd h
-act_words (while_loop test n body) vars h m = absurd h
-act_words (copy a b) vars h m = absurd h
+act_words : (act : Act) (vars : List Var) → ActFits act vars → (m : Memory) → length m.cells ≡ all_words vars → length (exec_act act vars m).memory.cells ≡ all_words vars
+act_words (assign v e) vars h m long = length-set m.cells (place vars v) (value e vars m.cells) ∙ long
+act_words (assign_at v i e) vars h m long = length-with_element m.cells (place vars v) (width vars v) (value i vars m.cells) (value e vars m.cells) ∙ long
+act_words (receive v port) vars h m long = length-set m.cells (place vars v) (head_or_zero (get_or m.inputs port [])) ∙ long
+act_words (send e port) vars h m long = long
+act_words (for_loop v n body) vars h m long = absurd h
+act_words (while_loop test n body) vars h m long = absurd h
+act_words (copy a b) vars h m long =
+    let one = array_within vars a in
+    let two = array_within vars b in
+    let same = h.same in
+    length-copied m.cells (place vars a) (place vars b) (width vars a) (omega arith) (omega arith) ∙ long
 
 mutual
-  pub block_words : (b : Block) (vars : List Var) → Fits b vars → (m : Memory) → length (exec b vars m).memory.cells ≡ length m.cells
-  block_words done vars h m = refl
-  block_words (next s rest) vars h m = block_words rest vars h.1 (exec_stmt s vars m).memory ∙ stmt_words s vars h.0 m
+  -- they leave as many words
+  pub block_words : (b : Block) (vars : List Var) → Fits b vars → (m : Memory) → length m.cells ≡ all_words vars → length (exec b vars m).memory.cells ≡ all_words vars
+  block_words done vars h m long = long
+  block_words (next s rest) vars h m long = block_words rest vars h.1 (exec_stmt s vars m).memory (stmt_words s vars h.0 m long)
 
-  pub stmt_words : (s : Stmt) (vars : List Var) → StmtFits s vars → (m : Memory) → length (exec_stmt s vars m).memory.cells ≡ length m.cells
-  stmt_words (item id act) vars h m = act_words act vars h m
-  stmt_words (choice id test held other) vars h m =
-      cond_both (holds (value test vars m.cells)) (exec held vars) (exec other vars) (λ f. length (f m).memory.cells ≡ length m.cells)
-      (λ _. block_words held vars h.1 m) (λ _. block_words other vars h.2 m)
-  stmt_words (timed id window body) vars h m = block_words body vars h m
+  pub stmt_words : (s : Stmt) (vars : List Var) → StmtFits s vars → (m : Memory) → length m.cells ≡ all_words vars → length (exec_stmt s vars m).memory.cells ≡ all_words vars
+  stmt_words (item id act) vars h m long = act_words act vars h m long
+  stmt_words (choice id test held other) vars h m long =
+      cond_both (holds (value test vars m.cells)) (exec held vars) (exec other vars) (λ f. length (f m).memory.cells ≡ all_words vars)
+      (λ _. block_words held vars h.1 m long) (λ _. block_words other vars h.2 m long)
+  stmt_words (timed id window body) vars h m long = block_words body vars h m long
 
 act_remains : (act : Act) (vars : List Var) → ActFits act vars → (inputs : List (List ℤ)) (m : Memory) (taken : List ℕ) → Remain inputs m.inputs taken →
     Remain inputs (exec_act act vars m).memory.inputs (takes (exec_act act vars m).events taken)
@@ -128,7 +134,7 @@ act_remains (receive v port) vars h inputs m taken remain = remain_after inputs 
 act_remains (send e port) vars h inputs m taken remain = remain
 act_remains (for_loop v n body) vars h inputs m taken remain = absurd h
 act_remains (while_loop test n body) vars h inputs m taken remain = absurd h
-act_remains (copy a b) vars h inputs m taken remain = absurd h
+act_remains (copy a b) vars h inputs m taken remain = remain
 
 mutual
   -- statements take from the inputs what the machine takes
@@ -159,7 +165,7 @@ act_quiet (receive v port) vars h none m = absurd (true≢false none)
 act_quiet (send e port) vars h none m = absurd (true≢false none)
 act_quiet (for_loop v n body) vars h none m = absurd h
 act_quiet (while_loop test n body) vars h none m = absurd h
-act_quiet (copy a b) vars h none m = absurd h
+act_quiet (copy a b) vars h none m = refl
 
 -- neither of two tests holds
 neither : (a b : Bool) → cond a true b ≡ false → (a ≡ false) × (b ≡ false)
@@ -210,7 +216,7 @@ act_plain (receive v port) vars h m = (refl, tt)
 act_plain (send e port) vars h m = (refl, tt)
 act_plain (for_loop v n body) vars h m = absurd h
 act_plain (while_loop test n body) vars h m = absurd h
-act_plain (copy a b) vars h m = absurd h
+act_plain (copy a b) vars h m = tt
 
 mutual
   pub block_plain : (b : Block) (vars : List Var) → Fits b vars → IsUntimed b → (m : Memory) → ArePlain (exec b vars m).events
@@ -235,7 +241,7 @@ act_no_loops (receive v port) vars h = refl
 act_no_loops (send e port) vars h = refl
 act_no_loops (for_loop v n body) vars h = absurd h
 act_no_loops (while_loop test n body) vars h = absurd h
-act_no_loops (copy a b) vars h = absurd h
+act_no_loops (copy a b) vars h = refl
 
 mutual
   -- they have no counters
@@ -291,7 +297,7 @@ act_goes_on (receive v port) vars h costs entry end events walk = shows_on _ ent
 act_goes_on (send e port) vars h costs entry end events walk = shows_on _ entry end events walk
 act_goes_on (for_loop v n body) vars h costs entry end events walk = absurd h
 act_goes_on (while_loop test n body) vars h costs entry end events walk = absurd h
-act_goes_on (copy a b) vars h costs entry end events walk = absurd h
+act_goes_on (copy a b) vars h costs entry end events walk = passes_on _ entry end events walk
 
 held_later : (hold : Option ℕ) (entry : ℕ) → entry ≤ held_entry hold entry
 held_later None entry = omega arith

@@ -3,11 +3,12 @@ use Rattle.std.proofs.Common.{◌≡◌, ℕ, suc, ◌+◌, ◌-◌, ◌*◌, �
 use Rattle.std.specs.Prelude.{slice_get, nat_le, max, unwrap_or}
 use Rattle.std.proofs.lemmas.Bool.{cases_Bool, cond_both, cond-true, true≢false}
 use Rattle.std.proofs.lemmas.List.{set-append_left}
+use Rattle.std.proofs.Math.Nat.{mul-pos}
 use Rattle.tcel_num.specs.Arithmetic.{holds}
 use Rattle.tcel_num.specs.Entry.{receive as receive_entry}
 use Rattle.tcel_core.specs.declared.event.EventKind.TheVariants as kinds
 use Rattle.tcel_core.specs.declared.var.Var.{Var}
-use Rattle.tcel_core.specs.Cells.{all_words, place, width, set_element}
+use Rattle.tcel_core.specs.Cells.{all_words, place, width, set_element, copy_words}
 use Rattle.tcel_core.specs.Language.{Expr, Block, done, next, Window, Stmt, item, choice, timed, Act, assign, assign_at, receive, send, for_loop, while_loop, copy}
 use Rattle.tcel_core.specs.Meaning.{value, head_or_zero, exec, exec_stmt, exec_act}
 use Rattle.tcel_core.specs.Outcome.{Memory, Occurrence, Outcome, event, enclosed, inside, then_run}
@@ -15,7 +16,7 @@ use Rattle.tcel_image.specs.declared.costs.Costs.{Costs}
 use Rattle.tcel_image.specs.declared.costs.CostKey.TheVariants as keys
 use Rattle.tcel_image.specs.declared.image.ImageTask.{ImageTask}
 use Rattle.tcel_image.specs.declared.image.Instr.{Instr}
-use Rattle.tcel_image.specs.declared.image.Instr.TheVariants.{Put, PutAt, Receive, Send, Branch, Jump, Hold}
+use Rattle.tcel_image.specs.declared.image.Instr.TheVariants.{Copy, Put, PutAt, Receive, Send, Branch, Jump, Hold}
 use Rattle.tcel_image.specs.declared.image.Line.{Line}
 use Rattle.tcel_image.specs.Costs.{CostsInRange}
 use Rattle.tcel_image.specs.Instructions.{cycles}
@@ -27,7 +28,7 @@ use Rattle.tcel_tool.specs.Walks.{Counts, Walks, StmtWalks, ActWalks, Then, Eith
 use Rattle.tcel_tool.proofs.Ahead.{Due, Ahead, IsAt, quietly, showing, after_cycles, makes, holds_on}
 use Rattle.tcel_tool.proofs.ExprRuns.{Stands, stands_front, stands_back, ready_at, EndsByCycles, cycles-depth, ahead_at, quiet_step, expr_runs}
 use Rattle.tcel_tool.proofs.Inputs.{Remain, take_one, takes, takes-append, same_input}
-use Rattle.tcel_tool.proofs.Scope.{IsSound, array_within, value_front, with_element_front}
+use Rattle.tcel_tool.proofs.Scope.{IsSound, array_within, value_front, with_element_front, copied_front}
 use Rattle.tcel_tool.proofs.Bodies.{ActFits, StmtFits, Fits, Suits, AllSuit, suit_split, no_dues, suit_inside, length-enclosed, takes-enclosed, stmt_words, stmt_remains, block_quiet}
 
 -- the due of one event
@@ -255,7 +256,28 @@ module _ (costs : Costs) (ranges : CostsInRange costs) (task : ImageTask) (input
       }
   act_runs (for_loop v n body) fits m p entry floor counter others taken long remain stands = absurd fits
   act_runs (while_loop test n body) fits m p entry floor counter others taken long remain stands = absurd fits
-  act_runs (copy a b) fits m p entry floor counter others taken long remain stands = absurd fits
+  act_runs (copy a b) fits m p entry floor counter others taken long remain stands =
+      let cells = copy_words vars m.cells a b in
+      let all : ℕ = width vars a * (costs.load + costs.store) in
+      let one = array_within vars a in
+      let two = array_within vars b in
+      let same_width = fits.same in
+      let same = copied_front m.cells others (place vars a) (place vars b) (width vars a) (omega arith) (omega arith) in
+      let load : 0 < costs.load = (ranges keys.Load).0 in
+      let each_word : 0 < costs.load + costs.store = omega arith in record {
+        end = entry + all;
+        counts = [];
+        left = others;
+        walk = (refl, refl);
+        each = refl;
+        as_many = refl;
+        ahead =
+            λ dues later suit then' ran since h waited low.
+            subst (λ l. Ahead costs task inputs last ran since (ready_at p stack (m.cells ++ others) frame taken) (l ++ later)) (sym (no_dues release floor [] dues suit))
+            (quiet_step costs task inputs last frame taken later (Copy (place vars a) (place vars b) (width vars a)) 0 (λ now r. refl) (mul-pos fits.some each_word) p (p + 1) ran since stack stack
+            (m.cells ++ others) (cells ++ others) stands.0 (λ spent. ap (λ l. quietly (ready_at (p + 1) stack l frame taken)) same)
+            (ahead_at costs task inputs last frame taken later _ _ _ _ _ _ stack (cells ++ others) refl refl refl (then' (ran + all) (since + all) (omega arith) (omega arith) (omega arith))));
+      }
 
   -- a test, which goes on behind it where it holds, and else at the target
   test_runs : (test : Expr) → IsSound vars test → (p target ran since : ℕ) (cells others : List ℤ) (taken : List ℕ) (dues : List Due) → length cells ≡ all_words vars →
@@ -475,7 +497,7 @@ module _ (costs : Costs) (ranges : CostsInRange costs) (task : ImageTask) (input
         let one = stmt_runs s fits.0 m p entry floor counter others taken long remain (stands_front task.code p code behind stands) in
         let o = exec_stmt s vars m in
         then_runs (StmtWalks s vars costs) (Walks rest vars costs) code behind o (exec rest vars) p entry floor m.cells others taken one
-        (block_runs rest fits.1 o.memory (p + length code) one.end floor (counter + stmt_loops s) one.left (takes o.events taken) (stmt_words s vars fits.0 m ∙ long)
+        (block_runs rest fits.1 o.memory (p + length code) one.end floor (counter + stmt_loops s) one.left (takes o.events taken) (stmt_words s vars fits.0 m long)
         (stmt_remains s vars fits.0 inputs m taken remain) (stands_back task.code p code behind stands))
 
     pub stmt_runs : (s : Stmt) → StmtFits s vars → (m : Memory) (p entry floor counter : ℕ) (others : List ℤ) (taken : List ℕ) → length m.cells ≡ all_words vars → Remain inputs m.inputs taken →

@@ -13,4 +13,6 @@ pub mod Traces
 pub mod SetMeets
 pub mod StateWords
 pub mod WholeFrames
+pub mod ReachedInTime
+pub mod WholeSets
 pub mod PlainMeets

@@ -11,9 +11,6 @@ use Rattle.tcel_core.specs.declared.var.Keep.{Keep}
 use Rattle.tcel_core.specs.declared.var.Var.{Var}
 use Rattle.tcel_core.specs.declared.var.VarKind.{VarKind}
 use Rattle.tcel_core.specs.Cells.{words_of}
-use Rattle.tcel_core.specs.Frames.{start_of}
-use Rattle.tcel_core.specs.Meaning.{exec}
-use Rattle.tcel_tool.specs.Walks.{Walks}
 use Rattle.tcel_tool.specs.declared.plain_tree.PlainKind.TheVariants as kinds
 use Rattle.tcel_num.specs.declared.op.Op.{Op}
 use Rattle.tcel_num.specs.declared.op.Op.TheVariants as ops
@@ -22,12 +19,11 @@ use Rattle.std.proofs.Common.{false}
 use Rattle.tcel_num.specs.Plan.{Plan}
 use Rattle.tcel_num.specs.Schedule.{served}
 use Rattle.tcel_core.specs.Meets.{Meets}
-use Rattle.tcel_core.specs.Promises.{behavior_of}
 use Rattle.tcel_image.specs.declared.costs.Costs.{Costs}
 use Rattle.tcel_image.specs.Costs.{CostsInRange}
 use Rattle.tcel_image.specs.Machine.{trace}
 use Rattle.tcel_tool.specs.Headline.{CompiledProgramsMeetTheirSource}
-use Rattle.tcel_tool.specs.Layout.{image_of, image_task}
+use Rattle.tcel_tool.specs.Layout.{image_of}
 use Rattle.tcel_tool.specs.PlainTree.{IsPlain, StmtIsPlain, ExprIsPlain, OperandIsPlain, names_of, variable_names, index_of, var_of, vars_of, operand_of, expr_of, act_of, block_from, task_of, set_of}
 use Rattle.tcel_tool.specs.WholePlan.{IsWholePlan}
 use Rattle.tcel_tool.specs.declared.plain_tree.PlainTree.{PlainTree}
@@ -39,13 +35,10 @@ use Rattle.tcel_tool.specs.declared.plain_tree.PlainExpr.TheVariants as exprs
 use Rattle.tcel_tool.specs.declared.plain_tree.Operand.{Operand}
 use Rattle.tcel_tool.specs.declared.plain_tree.Operand.TheVariants as operands
 use Rattle.std.specs.List.{AllByRecursion}
-use Rattle.tcel_tool.proofs.Bodies.{ActFits, Fits, IsUntimed, block_plain, block_goes_on, upto_later}
+use Rattle.tcel_tool.proofs.Bodies.{ActFits, Fits, IsUntimed}
 use Rattle.tcel_tool.proofs.Scope.{IsScalar, IsSound}
 use Rattle.tcel_tool.proofs.ServedAlone.{served_whole}
-use Rattle.tcel_tool.proofs.SetRuns.{Site}
-use Rattle.tcel_tool.proofs.SetMeets.{shows}
-use Rattle.tcel_tool.proofs.Progress.{IsDue}
-use Rattle.tcel_tool.proofs.WholeFrames.{EachDue, dues_of, events_due, whole_frames, whole_first}
+use Rattle.tcel_tool.proofs.WholeSets.{Serves, set_meets}
 
 -- ---- plain programs fit
 
@@ -135,35 +128,18 @@ module _ (tree : PlainTree) (costs : Costs) (plan : Plan) (plain : IsPlain tree)
       let h = subst (λ n. suc f * plan.total ≤ service n) there (served_whole plan positive fits (suc f)) in
       omega arith
 
-  body_fits : Fits (task_of tree).body (task_of tree).vars
-  body_fits = block_fits 0 tree.decls tree.body plain.statements
-
-  -- events are due by the mark
-  events_in_time : (f end : ℕ) (counts : List ℕ) → Walks (task_of tree).body (task_of tree).vars costs 0 end counts →
-      EachDue (IsDue plan.total tree.period service f) (dues_of f (f * tree.period) tree.period counts (exec (task_of tree).body (task_of tree).vars (start_of (task_of tree) streams f)).events)
-  events_in_time f end counts walk =
-      let total = whole.total in
-      let longest = whole.longest.greatest end (counts, walk) in
-      let on = block_goes_on (task_of tree).body (task_of tree).vars body_fits costs 0 end counts walk in
-      events_due plan.total tree.period tree.period f (whole.end + costs.mark) service (omega arith) (in_time f) counts (exec (task_of tree).body (task_of tree).vars (start_of (task_of tree) streams f)).events
-      (upto_later end (whole.end + costs.mark) counts (omega arith) on.events_by_end)
-      (block_plain (task_of tree).body (task_of tree).vars body_fits (block_untimed 0 tree.decls tree.body) (start_of (task_of tree) streams f))
-
-  site : Site costs (plan ∷ []) (streams ∷ [])
-  site = record {
-    number = 0;
-    task = image_task (task_of tree);
-    plan = plan;
-    behavior = behavior_of (task_of tree) streams;
-    period = whole.period;
+  serves : Serves costs ranges (plan ∷ []) (streams ∷ []) 0 (task_of tree) plan
+  serves = record {
+    fits = block_fits 0 tree.decls tree.body plain.statements;
+    untimed = block_untimed 0 tree.decls tree.body;
     positive = let some = plain.period.0 in omega arith;
-    frames = whole_frames costs ranges (task_of tree) body_fits plan whole service streams long in_time events_in_time;
-    first = whole_first costs ranges (task_of tree) body_fits plan whole service streams long in_time events_in_time;
+    whole = whole;
+    in_time = in_time;
+    long = long;
   }
 
   program_meets : (ticks : ℕ) → Meets (set_of tree) (plan ∷ []) (streams ∷ []) ticks (trace (image_of (set_of tree) costs) (streams ∷ []) ticks)
-  unfolding site
-  program_meets ticks = shows costs (plan ∷ []) (streams ∷ []) (site ∷ []) (refl, tt) refl ticks
+  program_meets ticks = set_meets costs ranges (plan ∷ []) (streams ∷ []) (set_of tree) (serves, tt) ticks
 
 pub plain_programs_meet : CompiledProgramsMeetTheirSource
 plain_programs_meet = λ tree costs plan plain ranges whole fits streams ticks long. program_meets tree costs plan plain ranges whole fits streams long ticks

@@ -1,8 +1,9 @@
 -- Statements that name words of the variables, beside words that stand behind those.
 use Rattle.std.proofs.Common.{◌≡◌, ℕ, zero, suc, ◌+◌, ◌<◌, ◌≤◌, ℤ, pos, negsuc, List, [], ◌∷◌, ◌++◌, length, refl, sym, ap, ◌∙◌, arith, inl, inr}
 use Rattle.std.proofs.lemmas.Bool.{cases_lt, lt-ltb, le-ltb, cond-true, cond-false}
-use Rattle.std.proofs.lemmas.List.{length-set, get_or_append_left, set-append_left}
-use Rattle.tcel_num.specs.Words.{with_element}
+use Rattle.std.proofs.lemmas.List.{length-set, length-drop, length-take-le, length-append, append_assoc, get_or_append_left, set-append_left, take-append-le, drop-append-le}
+use Rattle.std.specs.Prelude.{take, drop}
+use Rattle.tcel_num.specs.Words.{with_element, copied}
 use Rattle.tcel_num.specs.Words.{element as element_of}
 use Rattle.tcel_num.specs.Arithmetic.{unary_value, binary_value}
 use Rattle.tcel_core.specs.declared.var.Var.{Var}
@@ -55,6 +56,36 @@ length-with_element cells first many (pos i) x =
       | inr past ↦ ap length (cond-false _ _ _ (le-ltb i many past))
     ]
 length-with_element cells first many (negsuc i) x = refl
+
+-- a copy moves the same words
+pub copied_front : (cells others : List ℤ) (from to many : ℕ) → from + many ≤ length cells → to + many ≤ length cells → copied (cells ++ others) from to many ≡ copied cells from to many ++ others
+copied_front cells others from to many h g =
+    let before = take-append-le to cells others (omega arith) in
+    let source = drop-append-le from cells others (omega arith) in
+    let part = take-append-le many (drop from cells) others (omega (arith, length-drop from cells)) in
+    let behind = drop-append-le (to + many) cells others g in
+    let moved = ap (take many) source ∙ part in
+    ap (λ l. l ++ (take many (drop from (cells ++ others)) ++ drop (to + many) (cells ++ others))) before
+    ∙ ap (λ l. take to cells ++ (l ++ drop (to + many) (cells ++ others))) moved
+    ∙ ap (λ l. take to cells ++ (take many (drop from cells) ++ l)) behind
+    ∙ ap (λ l. take to cells ++ l) (sym (append_assoc (take many (drop from cells)) (drop (to + many) cells) others))
+    ∙ sym (append_assoc (take to cells) (take many (drop from cells) ++ drop (to + many) cells) others)
+
+pub length-copied : (cells : List ℤ) (from to many : ℕ) → from + many ≤ length cells → to + many ≤ length cells → length (copied cells from to many) ≡ length cells
+length-copied cells from to many h g =
+    omega (
+      arith,
+      length-append (take to cells) (take many (drop from cells) ++ drop (to + many) cells),
+      length-append (take many (drop from cells)) (drop (to + many) cells),
+      length-take-le to cells (omega arith),
+      length-take-le many (drop from cells) (omega (arith, length-drop from cells)),
+      length-drop (to + many) cells,
+    )
+
+-- two arrays of one width, which is not 0
+pub record AreAlike (vars : List Var) (a b : ℕ) : Type 0 where
+  pub same : width vars a ≡ width vars b
+  pub some : 0 < width vars a
 
 -- words behind those of the variables don't change a value
 pub value_front : (e : Expr) (vars : List Var) (cells others : List ℤ) → IsInScope vars e → length cells ≡ all_words vars → value e vars (cells ++ others) ≡ value e vars cells

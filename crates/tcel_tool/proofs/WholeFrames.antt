@@ -129,7 +129,7 @@ module _ (costs : Costs) (ranges : CostsInRange costs) (t : Task) (fits : Fits t
   words zero = length-start_cells t.vars (declared_state t.vars) (length-declared_state t.vars)
   words (suc f) =
       let cells = (does f).memory.cells in
-      length-start_cells t.vars (state_of t.vars cells) (length-state_of t.vars cells (block_words t.body t.vars fits (from f) ∙ words f))
+      length-start_cells t.vars (state_of t.vars cells) (length-state_of t.vars cells (block_words t.body t.vars fits (from f) (words f)))
 
   abbrev start : ℕ → Running
   start f = ready_at 0 [] (from f).cells f (taken f)
@@ -174,7 +174,7 @@ module _ (costs : Costs) (ranges : CostsInRange costs) (t : Task) (fits : Fits t
       λ w n e. showing (end_entry (take w cells)) (ready_at 0 [] (take w cells ++ replicate (n - w) (pos 0)) e (taken (suc f))) in
       let next_frame : f + 1 ≡ suc f = omega arith in
       ap (λ w. left w (length cells) (f + 1)) (states_words t.vars)
-      ∙ ap (λ n. left (state_words t.vars) n (f + 1)) (block_words t.body t.vars fits (from f) ∙ words f)
+      ∙ ap (λ n. left (state_words t.vars) n (f + 1)) (block_words t.body t.vars fits (from f) (words f))
       ∙ ap (λ e. left (state_words t.vars) (all_words t.vars) e) next_frame
 
   ahead : (f : ℕ) → Ahead costs task streams (start (suc f)) 0 (f * t.period) (start f) (dues f)
