@@ -1,0 +1,10 @@
+//! The tick machine: it runs a verified image on a script, one tick a call.
+#![tactic(auto)]
+
+mod cells;
+mod entry;
+mod operator;
+mod stack;
+mod task;
+
+pub use entry::{Entry, What};
