@@ -3,6 +3,7 @@
 
 mod cells;
 mod entry;
+mod execute;
 mod operator;
 mod stack;
 mod task;

@@ -107,7 +107,11 @@ impl Task {
         ensures { Becomes self.old self.new (move_to (if holds (top self.old.stack) then self.old.place + 1 else target) (below self.old.stack) self.old.cells.items (running_of self.old)).task }
     {
         let value = self.stack.pop();
-        let place = if holds(value) { self.place + 1 } else { target as usize };
+        let place = if holds(value) {
+            self.place + 1
+        } else {
+            target as usize
+        };
         self.move_to(place);
     }
 
@@ -118,7 +122,11 @@ impl Task {
     {
         let count = add(self.cells[cell as usize], 1);
         self.cells[cell as usize] = count;
-        let place = if count < i64::from(turns) { target as usize } else { self.place + 1 };
+        let place = if count < i64::from(turns) {
+            target as usize
+        } else {
+            self.place + 1
+        };
         self.move_to(place);
     }
 
