@@ -2,6 +2,7 @@
 #![tactic(auto)]
 
 mod cells;
+mod cycle;
 mod entry;
 mod execute;
 mod operator;
