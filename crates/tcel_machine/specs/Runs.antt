@@ -4,7 +4,7 @@ use Rattle.std.specs.Option.{option_map_or}
 use Rattle.tcel_image.specs.declared.image.ImageTask.{ImageTask}
 use Rattle.tcel_image.specs.declared.image.Line.{Line}
 use Rattle.tcel_image.specs.Machine.{Running, is_ready}
-use Rattle.tcel_image.specs.Spelling.{state_words}
+use Rattle.tcel_image.specs.Spelling.{state_words, TaskInRange}
 use Rattle.tcel_image.specs.Validity.{line_has}
 use Rattle.tcel_image.specs.declared.flaw.FlawKind.{FlawKind}
 use Rattle.tcel_machine.specs.declared.task.Task.{Task}
@@ -49,3 +49,7 @@ ready_at tasks now runs number =
 abbrev pub IsFirstReady : List ImageTask → ℕ → List Running → Option ℕ → Type 0
 IsFirstReady tasks now runs None = (number : ℕ) → ready_at tasks now runs number ≡ false
 IsFirstReady tasks now runs (Some number) = (ready_at tasks now runs number ≡ true) × ((other : ℕ) → other < number → ready_at tasks now runs other ≡ false)
+
+-- each task is in range, and valid
+abbrev pub AreSound : List ImageTask → Type 0
+AreSound tasks = (number : ℕ) (task : ImageTask) → slice_get tasks number ≡ Some task → TaskInRange task × IsTaskValid task

@@ -1,12 +1,12 @@
 -- A task of the machine as the definition's running task, and what an instruction needs of it.
 use Rattle.std.specs.Prelude.{◌≡◌, ℕ, ◌+◌, ◌<◌, ◌≤◌, ◌^◌, ℤ, List, length, take, slice_index, Option, option_map, if◌then◌else◌}
 use Rattle.tcel_num.specs.Arithmetic.{is_unary}
-use Rattle.tcel_num.specs.Entry.{What, receive, send, first, end}
+use Rattle.tcel_num.specs.Entry.{What}
 use Rattle.tcel_image.specs.declared.image.Instr.{Instr}
 use Rattle.tcel_image.specs.declared.image.Instr.TheVariants.{Const, Get, Put, GetAt, PutAt, Arith, Jump, Branch, Loop, Receive, Send, Hold, Copy, Mark, End}
 use Rattle.tcel_image.specs.Machine.{Running}
 use Rattle.tcel_machine.specs.declared.entry.What as declared
-use Rattle.tcel_machine.specs.declared.entry.What.TheVariants as shown
+use Rattle.tcel_machine.specs.Seen.{seen}
 use Rattle.tcel_machine.specs.declared.task.Task.{Task}
 
 -- the task as the definition has it
@@ -43,13 +43,6 @@ CanRun (Hold bound) task = Unit {0}
 CanRun (Copy from to size) task = HasCells from size task × HasCells to size task
 CanRun Mark task = Unit {0}
 CanRun End task = Unit {0}
-
--- what an entry shows, in a task whose states hold these words
-abbrev pub seen : List ℤ → declared.What → What
-seen state (shown.Receive port value) = receive port value
-seen state (shown.Send port value) = send port value
-seen state shown.First = first
-seen state shown.End = end state
 
 -- the words of a task's states
 abbrev pub state_of : Task → List ℤ

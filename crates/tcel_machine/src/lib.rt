@@ -5,8 +5,12 @@ mod cells;
 mod cycle;
 mod entry;
 mod execute;
+mod machine;
 mod operator;
 mod stack;
+mod start;
+mod step;
 mod task;
 
 pub use entry::{Entry, What};
+pub use machine::Machine;
