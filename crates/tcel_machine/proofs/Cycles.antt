@@ -31,14 +31,15 @@ module _ (task : ImageTask) (range : TaskInRange task) (valid : IsTaskValid task
   pub runs_on : (inputs : List (List ℤ)) (new : Task) → run.ended * task.period ≤ now → Becomes run new (effect run.words inputs line.instr (running_of run)).task
       → IsRunning task (now + 1) new
   runs_on inputs new ready becomes =
+      let shape : HasShape task (running_of new) =
+      subst (HasShape task) (sym becomes.task)
+      (has_shape task _
+      (leads task run.words inputs line.depth line.instr (running_of run) (fine task valid run.place line is) running.shape.place
+      (start_at task valid (omega (arith, running.shape.place))) running.fits (running.shape.depth line is) running.shape.cells running.shape.taken)) in
       record {
         words = becomes.words ∙ running.words;
-        shape =
-            subst (HasShape task) (sym becomes.task)
-            (has_shape task _
-            (leads task run.words inputs line.depth line.instr (running_of run) (fine task valid run.place line is) running.shape.place
-            (start_at task valid (omega (arith, running.shape.place))) (omega (arith, running.words, running.shape.cells, range.cells.0)) (running.shape.depth line is)
-            running.shape.cells running.shape.taken));
+        fits = omega (arith, becomes.words, running.fits, running.shape.cells, shape.cells);
+        shape = shape;
         counts = subst (HasCounts task (now + 1)) (sym becomes.task) (counts task now run.words inputs line.instr (running_of run) running.counts ready);
       }
 

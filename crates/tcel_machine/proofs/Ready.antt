@@ -19,9 +19,9 @@ released ended period now h =
     let by : (ended ≤ now / period → ended * period ≤ now) × (ended * period ≤ now → ended ≤ now / period) = le-div_iff_mul-le h in
     ⊎_elim
     (λ late.
-        let not_yet : now / period + 1 ≤ ended =
-            ⊎_elim (λ less. omega arith) (λ more. absurd (omega (arith, by.0 more))) (cases_lt (now / period) ended) in
-        lt-leb (ended * period) now late ∙ sym (le-ltb ended (now / period + 1) not_yet))
+    let not_yet : now / period + 1 ≤ ended =
+    ⊎_elim (λ less. omega arith) (λ more. absurd (omega (arith, by.0 more))) (cases_lt (now / period) ended) in
+    lt-leb (ended * period) now late ∙ sym (le-ltb ended (now / period + 1) not_yet))
     (λ early. le-leb (ended * period) now early ∙ sym (lt-ltb ended (now / period + 1) (omega (arith, by.1 early))))
     (cases_lt now (ended * period))
 
@@ -56,6 +56,7 @@ later : (task : ImageTask) (now : ℕ) (run : Task) → IsRunning task now run �
 later task now run h =
     record {
       words = h.words;
+      fits = h.fits;
       shape = h.shape;
       counts = record { spent = omega (arith, h.counts.spent); reach = omega (arith, h.counts.reach); given = λ port. omega (arith, h.counts.given port) };
     }
@@ -71,8 +72,8 @@ all_but tasks now runs place task new h t kept =
       each = λ number other run is at.
           ⊎_elim
           (λ same.
-              let one : task ≡ other = same_Some task other (sym t ∙ ap (slice_get tasks) (sym same.0) ∙ is) in
-              subst (λ x. IsRunning x (now + 1) run) one (subst (λ x. IsRunning task (now + 1) x) same.1 kept))
+          let one : task ≡ other = same_Some task other (sym t ∙ ap (slice_get tasks) (sym same.0) ∙ is) in
+          subst (λ x. IsRunning x (now + 1) run) one (subst (λ x. IsRunning task (now + 1) x) same.1 kept))
           (λ old. later other now run (h.each number other run is old))
           (set_get runs place number new run at);
     }

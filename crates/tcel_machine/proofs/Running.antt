@@ -1,10 +1,10 @@
 -- A tick in which a task has a cycle.
-use Rattle.std.proofs.Common.{◌≡◌, ℕ, ◌+◌, ◌<◌, ◌≤◌, true, List, [], length, get_or, set, take, map, get_or-set_same, Option, Some, None, refl, ap, sym, ◌∙◌, subst, arith}
+use Rattle.std.proofs.Common.{◌≡◌, ℕ, ◌+◌, ◌<◌, ◌≤◌, true, ⊎_elim, List, [], length, get_or, set, take, map, get_or-set_same, Option, Some, None, refl, ap, sym, ◌∙◌, subst, arith}
 use Rattle.std.specs.List.{slice_get}
 use Rattle.std.specs.Option.{option_map, option_map_or}
 use Rattle.std.proofs.lemmas.List.{map-set}
 use Rattle.std.proofs.Math.ListN.{length-set}
-use Rattle.std.proofs.lemmas.Option.{slice_get-map, slice_get-get_or, slice_get_read, get_or_from_slice_get}
+use Rattle.std.proofs.lemmas.Option.{slice_get-map, slice_get-get_or, slice_get_read, slice_get_cases, get_or_from_slice_get}
 use Rattle.tcel_num.specs.Entry as plain
 use Rattle.tcel_image.specs.declared.image.Image.{Image}
 use Rattle.tcel_image.specs.declared.image.ImageTask.{ImageTask}
@@ -33,7 +33,7 @@ module _ (image : Image) (streams : Streams) (now : ℕ) (old : List Task) (numb
   state_is : new.words ≡ state_words task.states → state_in image.tasks (map running_of (set old number new)) number ≡ state_of new
   state_is words =
       let stands : slice_get (map running_of (set old number new)) number ≡ Some (running_of new) =
-          slice_get-map running_of (set old number new) number ∙ ap (option_map running_of) (get_set old number new within) in
+      slice_get-map running_of (set old number new) number ∙ ap (option_map running_of) (get_set old number new within) in
       ap (λ found. option_map_or (λ (t : ImageTask). option_map_or (λ (r : Running). take (state_words t.states) r.cells) (slice_get (map running_of (set old number new)) number) []) found []) is
       ∙ ap (λ found. option_map_or (λ (r : Running). take (state_words task.states) r.cells) found []) stands
       ∙ ap (λ n. take n new.cells.items) (sym words)
@@ -71,3 +71,28 @@ idle image streams now old can none =
       tasks = sym (ap (λ (t : Ticked). t.tasks) whole);
       tells = sym (ap (λ (t : Ticked). t.entry) whole);
     }
+
+-- the words that a task shows are those of its number
+pub shown_at : (tasks : List ImageTask) (runs : List Task) (now number : ℕ) (run : Task) → AllRun tasks now runs → number < length runs → run ≡ get_or runs number run
+    → state_of run ≡ state_in tasks (map running_of runs) number
+shown_at tasks runs now number run all h is =
+    ⊎_elim
+    (λ found.
+    let task = found.0 in
+    let was = slice_get_read runs (length runs) number run refl h is in
+    let running = all.each number task run found.2 was in
+    let stands : slice_get (map running_of runs) number ≡ Some (running_of run) = slice_get-map running_of runs number ∙ ap (option_map running_of) was in
+    ap (λ n. take n run.cells.items) running.words
+    ∙ sym
+    (ap (λ f. option_map_or (λ (t : ImageTask). option_map_or (λ (r : Running). take (state_words t.states) r.cells) (slice_get (map running_of runs) number) []) f []) found.2
+    ∙ ap (λ f. option_map_or (λ (r : Running). take (state_words task.states) r.cells) f []) stands))
+    (λ none. absurd (omega (arith, all.count, none.0)))
+    (slice_get_cases tasks number).1
+
+pub fits_at : (tasks : List ImageTask) (runs : List Task) (now number : ℕ) (run : Task) → AllRun tasks now runs → number < length runs → run ≡ get_or runs number run
+    → run.words ≤ length run.cells.items
+fits_at tasks runs now number run all h is =
+    ⊎_elim
+    (λ found. (all.each number found.0 run found.2 (slice_get_read runs (length runs) number run refl h is)).fits)
+    (λ none. absurd (omega (arith, all.count, none.0)))
+    (slice_get_cases tasks number).1

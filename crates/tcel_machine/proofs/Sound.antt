@@ -41,9 +41,10 @@ task_valid before task clear =
     record { some = omega arith; most = ltb-false _ _ period.1; lines = λ place line is kind. line_clear before task place line kind is (clear kind place) }
 
 pub sound : (image : Image) → InRange image → IsValid image → AreSound image.tasks
-sound image range valid number task is =
-    (subst TaskInRange (get_or_from_slice_get image.tasks number task task is) (range.tasks number task (slice_get_within image.tasks number task is)),
-     task_valid (take number image.tasks) task (clear_in image valid number task is))
+sound image range valid number task is = (
+  subst TaskInRange (get_or_from_slice_get image.tasks number task task is) (range.tasks number task (slice_get_within image.tasks number task is)),
+  task_valid (take number image.tasks) task (clear_in image valid number task is),
+)
 
 -- ---- the start
 
@@ -80,15 +81,16 @@ pub starts : (task : ImageTask) (run : Task) → TaskInRange task → IsTaskVali
 starts task run range valid words e =
     let code = start_at task valid (omega (arith, range.code.count.0)) in
     let shape : HasShape task (start_task task) =
-        record {
-          place = code.within;
-          depth = λ line is. sym (code.deep line is);
-          low = omega arith;
-          cells = simp (length-append, length-replicate) (omega (arith, length-words task range, range.cells.0));
-          taken = length-map task.inputs (λ _. 0);
-        } in
+    record {
+      place = code.within;
+      depth = λ line is. sym (code.deep line is);
+      low = omega arith;
+      cells = simp (length-append, length-replicate) (omega (arith, length-words task range, range.cells.0));
+      taken = length-map task.inputs (λ _. 0);
+    } in
     let counts : HasCounts task 0 (start_task task) = record { spent = omega arith; reach = omega arith; given = λ port. omega (arith, none_given task.inputs port) } in
-    record { words = words; shape = subst (HasShape task) (sym e) shape; counts = subst (HasCounts task 0) (sym e) counts }
+    let now : HasShape task (running_of run) = subst (HasShape task) (sym e) shape in
+    record { words = words; fits = omega (arith, words, now.cells, range.cells.0); shape = now; counts = subst (HasCounts task 0) (sym e) counts }
 
 pub push_get : {X : Type 0} (xs : List X) (k : ℕ) (x y : X) → slice_get (xs ++ x ∷ []) k ≡ Some y → ((k ≡ length xs) × (x ≡ y)) ⊎ (slice_get xs k ≡ Some y)
 push_get [] zero x y h = inl (refl, same_Some x y h)
@@ -105,8 +107,8 @@ pub one_started : (tasks : List ImageTask) (runs : List Task) (task : ImageTask)
 one_started tasks runs task new first is kept number other run at was =
     ⊎_elim
     (λ same.
-        let one : task ≡ other = same_Some task other (sym is ∙ ap (slice_get tasks) (sym same.0) ∙ at) in
-        subst (λ x. IsRunning x 0 run) one (subst (λ x. IsRunning task 0 x) same.1 kept))
+    let one : task ≡ other = same_Some task other (sym is ∙ ap (slice_get tasks) (sym same.0) ∙ at) in
+    subst (λ x. IsRunning x 0 run) one (subst (λ x. IsRunning task 0 x) same.1 kept))
     (λ old. first number other run at old)
     (push_get runs number new run was)
 

@@ -32,6 +32,7 @@ pub record HasCounts (task : ImageTask) (now : ℕ) (running : Running) : Type 0
 
 pub record IsRunning (task : ImageTask) (now : ℕ) (run : Task) : Type 0 where
   pub words : run.words ≡ state_words task.states
+  pub fits : run.words ≤ length run.cells.items
   pub shape : HasShape task (running_of run)
   pub counts : HasCounts task now (running_of run)
 

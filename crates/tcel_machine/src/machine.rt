@@ -68,8 +68,7 @@ impl Machine {
         requires { task < length self.now.image.tasks }
         ensures { result.now ≡ state_at self.now task }
     {
-        let task = &self.tasks[task as usize];
-        &task.cells[..task.words]
+        self.tasks[task as usize].state()
     }
 
     /// The ticks so far.

@@ -2,7 +2,7 @@ ghost use Rattle.std.specs.Prelude.{◌≡◌, ◌+◌, ◌<◌, ◌≤◌, ◌^
 ghost use Rattle.tcel_num.specs.Arithmetic.{is_unary, holds};
 ghost use Rattle.tcel_num.specs.Words.{element, with_element, copied};
 ghost use Rattle.tcel_image.specs.Machine.{Running, Outcome, go_on, move_to, show, top, below, applied, counted, end_frame};
-ghost use Rattle.tcel_machine.specs.Task.{running_of, Becomes, Holds, HasCells};
+ghost use Rattle.tcel_machine.specs.Task.{running_of, Becomes, Holds, HasCells, state_of};
 
 use crate::cells::{clear, copy, element, set_element};
 use crate::operator::{binary, holds, is_unary, unary};
@@ -163,6 +163,14 @@ impl Task {
         let value = self.stack.pop();
         self.go_on();
         value
+    }
+
+    /// The words of the states.
+    pub(crate) fn state(&self) -> &[i64]
+        requires { self.now.words ≤ length self.now.cells.items }
+        ensures { result.now ≡ state_of self.now }
+    {
+        &self.cells.as_slice()[..self.words]
     }
 
     /// On to the next frame.

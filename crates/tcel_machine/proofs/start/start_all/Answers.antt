@@ -8,7 +8,7 @@ use Rattle.tcel_machine.proofs.start.start_all.Goals as goal
 pub start-requires-clause-valid : goal.start-requires-clause-valid
 start-requires-clause-valid c =
     let is = read_at c.as_slice-image_tasks.result.now c.args.image.now.tasks c.as_slice-image_tasks.ensures c.loop-image_task.image_task-index c.image_task-item.result
-        c.loop-image_task-test.true c.image_task-item.is in
+    c.loop-image_task-test.true c.image_task-item.is in
     (sound c.args.image.now c.requires.range c.requires.valid c.loop-image_task.image_task-index c.image_task-item.result is).1
 
 pub loop-image_task-preserved : goal.loop-image_task-preserved

@@ -25,9 +25,11 @@ returns-then-is_ready-clause-first c =
     let list = c.as_slice-image_tasks.result.now in
     let h : c.loop-number.number < length list = omega (arith, ap length c.as_slice-image_tasks.ensures, c.requires.running.count) in
     let task = read_at list c.args.image.now.tasks c.as_slice-image_tasks.ensures c.loop-number.number c.index-image_tasks-number.result h c.index-image_tasks-number.is in
-    let run = read_at c.args.tasks.now c.args.tasks.now refl c.loop-number.number c.index-tasks-number.result c.loop-number-test.true c.index-tasks-number.is in
-    (ready_is c.args.image.now.tasks c.args.now c.args.tasks.now c.loop-number.number c.index-image_tasks-number.result c.index-tasks-number.result task run
-    ∙ sym c.is_ready.ensures ∙ c.if-is_ready.true, c.loop-number.invariant)
+    let run = read_at c.args.tasks.now c.args.tasks.now refl c.loop-number.number c.index-tasks-number.result c.loop-number-test.true c.index-tasks-number.is in (
+      ready_is c.args.image.now.tasks c.args.now c.args.tasks.now c.loop-number.number c.index-image_tasks-number.result c.index-tasks-number.result task run
+          ∙ sym c.is_ready.ensures ∙ c.if-is_ready.true,
+      c.loop-number.invariant,
+    )
 
 pub loop-number-preserved : goal.loop-number-preserved
 loop-number-preserved c =
