@@ -3,7 +3,7 @@ use Rattle.std.proofs.Common.{◌≡◌, ℕ, ℤ, pos, negsuc, zero, suc, ◌+�
 use Rattle.std.specs.Prelude.{FitsSigned}
 use Rattle.std.specs.List.{flat_map, AllByRecursion}
 use Rattle.std.specs.Int.{Width, w16, w32, w64, byte_len, from_le_bytes, to_le_bytes, cast_signed, cast_unsigned, IsInRange, is_in_range}
-use Rattle.std.proofs.lemmas.Bool.{cases_lt, ltb-false, le-ltb, leb-true, le-leb, and_parts, and_from}
+use Rattle.std.proofs.lemmas.Bool.{cases_lt, ltb-false, le-ltb, leb-true, le-leb, and_parts, and_from, lt-ltb}
 use Rattle.std.proofs.lemmas.List.{take_at, drop_at, take-append-drop, length-append, length-take, get_or-drop, get_or-take, get_or_past, append-nil}
 use Rattle.std.proofs.lemmas.List.Elements.{All-from_recursion, recursion_from_All}
 use Rattle.std.proofs.lemmas.Nat.{le_bytes_2, le_bytes_4, le_bytes_8, from_le_bytes-to_le_bytes_2, from_le_bytes-to_le_bytes_4, from_le_bytes-to_le_bytes_8}
@@ -13,7 +13,7 @@ use Rattle.tcel_image.specs.declared.fault.Fault.{Fault}
 use Rattle.tcel_image.specs.declared.fault.Fault.TheVariants as faults
 use Rattle.tcel_image.specs.Spelling.{number, value, byte}
 use Rattle.tcel_image.specs.Reading.{Reader, after, ◌>>=◌, done, number_at, byte_at, value_at, many_at}
-use Rattle.tcel_image.proofs.Readers.{IsBytes, Takes, Takes-then, Reads, bind_ok, given_value, given_rest, done_reads, bind_reads, as_reads}
+use Rattle.tcel_image.proofs.Readers.{IsBytes, Takes, Takes-then, Reads, bind_ok, given_value, given_rest, done_reads, bind_reads, as_reads, shorter, cut_after}
 
 pub IsBytes-drop : (n : ℕ) (bytes : List ℕ) → IsBytes bytes → IsBytes (drop n bytes)
 IsBytes-drop n bytes h i = rw get_or-drop (h (n + i))
@@ -82,10 +82,16 @@ number_again w limit least greatest wide lt n rest fits =
     let below : n < limit = omega (arith, fits.1) in
     rw (long, take_at (to_le_bytes w n) rest (byte_len w) len, drop_at (to_le_bytes w n) rest (byte_len w) len, wide.again n below, true_range least greatest n fits) refl
 
+number_cut : (w : Width) (limit least greatest : ℕ) (wide : IsWide w limit) (n : ℕ) (front : List ℕ) (b : ℕ) (more : List ℕ) → number w n ≡ front ++ b ∷ more
+    → number_at w least greatest front ≡ Err faults.Cut
+unfolding number_at number
+number_cut w limit least greatest wide n front b more e = rw (lt-ltb (length front) (byte_len w) (omega (arith, shorter (to_le_bytes w n) front b more e, wide.len n))) refl
+
 pub number_reads : (w : Width) (limit least greatest : ℕ) → IsWide w limit → greatest < limit → Reads (number_at w least greatest) (number w) (IsInRange least greatest)
 number_reads w limit least greatest wide lt = record {
   takes = λ bytes n rest fits e. number_takes w limit least greatest wide bytes n rest fits e;
   again = λ n rest fits. number_again w limit least greatest wide lt n rest fits;
+  cut = λ n front b more fits e. number_cut w limit least greatest wide n front b more e;
 }
 
 -- one byte
@@ -103,10 +109,16 @@ byte_again : (least greatest n : ℕ) (rest : List ℕ) → IsInRange least grea
 unfolding byte_at
 byte_again least greatest n rest fits = rw (true_range least greatest n fits) refl
 
+byte_cut : (least greatest n : ℕ) (front : List ℕ) (b : ℕ) (more : List ℕ) → byte n ≡ front ++ b ∷ more → byte_at least greatest front ≡ Err faults.Cut
+unfolding byte_at
+byte_cut least greatest n [] b more e = refl
+byte_cut least greatest n (c ∷ front) b more e = absurd (omega (arith, shorter (byte n) (c ∷ front) b more e))
+
 pub byte_reads : (least greatest : ℕ) → Reads (byte_at least greatest) byte (IsInRange least greatest)
 byte_reads least greatest = record {
   takes = λ bytes n rest fits e. byte_takes least greatest bytes n rest fits e;
   again = λ n rest fits. byte_again least greatest n rest fits;
+  cut = λ n front b more fits e. byte_cut least greatest n front b more e;
 }
 
 -- a signed number
@@ -153,6 +165,15 @@ many_again read spell Fits h (x ∷ xs) rest fits =
     ∙ ap (λ r. after r (λ first. many_at read (length xs) >>= λ others. done (first ∷ others))) (h.again x (flat_map spell xs ++ rest) fits.0)
     ∙ ap (λ r. after r (λ others. done (x ∷ others))) (many_again read spell Fits h xs rest fits.1)
 
+many_cut : {A : Type 0} (read : Reader A) (spell : A → List ℕ) (Fits : A → Type 0) → Reads read spell Fits → (xs : List A) (front : List ℕ) (b : ℕ) (more : List ℕ)
+    → AllByRecursion Fits xs → flat_map spell xs ≡ front ++ b ∷ more → many_at read (length xs) front ≡ Err faults.Cut
+unfolding many_at
+many_cut read spell Fits h [] front b more fits e = absurd (omega (arith, shorter [] front b more e))
+many_cut read spell Fits h (x ∷ xs) front b more fits e =
+    cut_after read (λ first. many_at read (length xs) >>= λ others. done (first ∷ others)) x (spell x) (flat_map spell xs) front b more e
+    (λ f c m q. h.cut x f c m fits.0 q) (λ rest. h.again x rest fits.0)
+    (λ f q. ap (λ r. after r (λ others. done (x ∷ others))) (many_cut read spell Fits h xs f b more fits.1 q))
+
 pub many_reads : {A : Type 0} {read : Reader A} {spell : A → List ℕ} {Fits : A → Type 0} → Reads read spell Fits → (n : ℕ)
     → Reads (many_at read n) (flat_map spell) (λ xs. (length xs ≡ n) × All Fits xs)
 many_reads {A} {read} {spell} {Fits} h n = record {
@@ -161,4 +182,6 @@ many_reads {A} {read} {spell} {Fits} h n = record {
       (t.0, (t.1, All-from_recursion Fits xs t.2));
   again = λ xs rest fits.
       subst (λ k. many_at read k (flat_map spell xs ++ rest) ≡ Ok (xs, rest)) fits.0 (many_again read spell Fits h xs rest (recursion_from_All Fits xs fits.1));
+  cut = λ xs front b more fits e.
+      subst (λ k. many_at read k front ≡ Err faults.Cut) fits.0 (many_cut read spell Fits h xs front b more (recursion_from_All Fits xs fits.1) e);
 }

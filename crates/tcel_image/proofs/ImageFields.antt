@@ -1,5 +1,5 @@
 -- States, tasks and images as fields, and what all of the bytes spell.
-use Rattle.std.proofs.Common.{◌≡◌, ℕ, zero, suc, ◌+◌, ◌-◌, ◌^◌, ◌≤◌, min, Bool, true, false, eqb, List, [], ◌∷◌, ◌++◌, length, take, drop, Result, Ok, Err, refl, sym, ap, subst, ◌∙◌, arith, All, append_assoc}
+use Rattle.std.proofs.Common.{◌≡◌, ℕ, zero, suc, ◌+◌, ◌-◌, ◌^◌, ◌≤◌, min, Bool, true, false, eqb, List, [], ◌∷◌, ◌++◌, length, take, drop, Result, Ok, Err, refl, sym, ap, subst, ◌∙◌, arith, All, append_assoc, inl, inr}
 use Rattle.std.specs.Prelude.{nat_eq}
 use Rattle.std.specs.List.{flat_map, AllByRecursion, starts_with}
 use Rattle.std.specs.Int.{w16, w32, IsInRange}
@@ -19,8 +19,8 @@ use Rattle.tcel_image.specs.declared.image.StateKind.{StateKind}
 use Rattle.tcel_image.specs.declared.image.StateKind.TheVariants as kinds
 use Rattle.tcel_image.specs.Costs.{CostsInRange, IsCost}
 use Rattle.tcel_image.specs.Spelling.{number, byte, name, names, kind_number, flag, state, states, code, task, costs, magic, spelling, most_words, state_words, StateInRange, StatesInRange, TaskInRange, InRange}
-use Rattle.tcel_image.specs.Reading.{after, ◌>>=◌, done, kind_from, state_at, states_from, states_at, task_at, cost_at, costs_at, magic_at, image_at, ended}
-use Rattle.tcel_image.proofs.Readers.{IsBytes, Takes, Takes-then, Reads, given, given_value, given_rest, bind_ok, done_reads, bind_reads, as_reads}
+use Rattle.tcel_image.specs.Reading.{Reader, number_at, many_at, after, ◌>>=◌, done, kind_from, state_at, states_from, states_at, task_at, cost_at, costs_at, magic_at, image_at, ended}
+use Rattle.tcel_image.proofs.Readers.{IsBytes, Takes, Takes-then, Reads, given, given_value, given_rest, bind_ok, done_reads, bind_reads, as_reads, shorter, cut_in, cut_after}
 use Rattle.tcel_image.proofs.Fields.{number_reads, byte_reads, value_reads, many_reads, wide16, wide32, IsBytes-drop, test_ok}
 use Rattle.tcel_image.proofs.NameFields.{name_reads, names_reads}
 use Rattle.tcel_image.proofs.InstrFields.{code_reads}
@@ -108,6 +108,18 @@ states_again used (s ∷ ss) rest fits room =
     ∙ ap (λ r. after r (λ first. states_from (used + first.words) (length ss) >>= λ others. done (first ∷ others))) ((state_reads used (omega (arith, all))).again s (flat_map state ss ++ rest) first)
     ∙ ap (λ r. after r (λ others. done (s ∷ others))) (states_again (used + s.words) ss rest fits.1 (omega (arith, all)))
 
+states_cut : (used : ℕ) (ss : List ImageState) (front : List ℕ) (b : ℕ) (more : List ℕ) → AllByRecursion StateInRange ss → used + state_words ss ≤ 4096
+    → flat_map state ss ≡ front ++ b ∷ more → states_from used (length ss) front ≡ Err faults.Cut
+unfolding states_from
+states_cut used [] front b more fits room e = absurd (omega (arith, shorter [] front b more e))
+states_cut used (s ∷ ss) front b more fits room e =
+    let all : used + (s.words + state_words ss) ≤ 4096 = omega (arith, room, sum_by-cons (λ (s : ImageState). s.words) s ss) in
+    let first : FitsBehind used s = record { alone = fits.0; room = omega (arith, all) } in
+    let reads = state_reads used (omega (arith, all)) in
+    cut_after (state_at used) (λ first. states_from (used + first.words) (length ss) >>= λ others. done (first ∷ others)) s (state s) (flat_map state ss) front b more e
+    (λ f c m q. reads.cut s f c m first q) (λ rest. reads.again s rest first)
+    (λ f q. ap (λ r. after r (λ others. done (s ∷ others))) (states_cut (used + s.words) ss f b more fits.1 (omega (arith, all)) q))
+
 record FollowStates (n : ℕ) (ss : List ImageState) : Type 0 where
   count : length ss ≡ n
   each : All StateInRange ss
@@ -120,6 +132,8 @@ follow_reads n = record {
       (t.0, record { count = t.1; each = All-from_recursion StateInRange ss t.2; words = omega (arith, t.3) });
   again = λ ss rest h. subst (λ (k : ℕ). states_from 0 k (flat_map state ss ++ rest) ≡ Ok (ss, rest)) h.count
       (states_again 0 ss rest (recursion_from_All StateInRange ss h.each) (omega (arith, h.words)));
+  cut = λ ss front b more h e. subst (λ (k : ℕ). states_from 0 k front ≡ Err faults.Cut) h.count
+      (states_cut 0 ss front b more (recursion_from_All StateInRange ss h.each) (omega (arith, h.words)) e);
 }
 
 states_reads : Reads states_at states StatesInRange
@@ -311,21 +325,25 @@ magic_again : (rest : List ℕ) → magic_at (magic ++ rest) ≡ Ok (magic, rest
 unfolding magic_at
 magic_again rest = refl
 
-magic_reads : Reads magic_at (λ m. m) (λ m. m ≡ magic)
-magic_reads = record {
-  takes = λ bytes m rest fits e. magic_takes bytes m rest fits e;
-  again = λ m rest h. subst (λ (l : List ℕ). magic_at (l ++ rest) ≡ Ok (l, rest)) (sym h) (magic_again rest);
-}
+regroup_five : (a b c d e : List ℕ) → a ++ b ++ c ++ d ++ e ≡ a ++ (b ++ (c ++ (d ++ e)))
+regroup_five a b c d e = simp append_assoc
 
-regroup_five : (a b c d e : List ℕ) → a ++ b ++ c ++ d ++ e ≡ a ++ (b ++ (c ++ (d ++ (e ++ []))))
-regroup_five a b c d e = simp (append_assoc, append-nil)
+-- the fields behind the magic
+fields_at : Reader Image
+fields_at = number_at w32 1 1 >>= λ v. number_at w32 1 16 >>= λ n. costs_at >>= λ c. many_at task_at n >>= λ ts. done (record { costs = c; tasks = ts })
 
-image_reads : Reads image_at spelling InRange
-unfolding image_at
-image_reads =
-    as_reads spelling InRange
-    (bind_reads magic_reads (λ (i : Image). magic)
-    (λ m hm. bind_reads (number_reads w32 (2 ^ 32) 1 1 wide32 (omega arith)) (λ (i : Image). 1)
+fields : Image → List ℕ
+fields i = number w32 1 ++ (number w32 (length i.tasks) ++ (costs i.costs ++ flat_map task i.tasks))
+
+spelling_is : (i : Image) → spelling i ≡ magic ++ fields i
+unfolding fields
+spelling_is i = regroup_five magic (number w32 1) (number w32 (length i.tasks)) (costs i.costs) (flat_map task i.tasks)
+
+fields_reads : Reads fields_at fields InRange
+unfolding fields_at fields
+fields_reads =
+    as_reads fields InRange
+    (bind_reads (number_reads w32 (2 ^ 32) 1 1 wide32 (omega arith)) (λ (i : Image). 1)
     (λ v hv. bind_reads (number_reads w32 (2 ^ 32) 1 16 wide32 (omega arith)) (λ (i : Image). length i.tasks)
     (λ n hn. bind_reads costs_reads (λ (i : Image). i.costs)
     (λ c hc. bind_reads (many_reads task_reads n) (λ (i : Image). i.tasks)
@@ -334,10 +352,16 @@ image_reads =
     (λ c hc i e. ap (λ (j : Image). j.costs) e.1))
     (λ n hn i e. e.1.0.0))
     (λ v hv i e. omega (arith, hv.0, hv.1)))
-    (λ m hm i e. sym hm))
-    (λ i h. regroup_five magic (number w32 1) (number w32 (length i.tasks)) (costs i.costs) (flat_map task i.tasks))
-    (λ i h. record { costs = h.1.1.1.0; count = h.1.1.0; tasks = h.1.1.1.1.0.1 })
-    (λ i h. (refl, ((omega arith, omega arith), (h.count, (h.costs, ((refl, h.tasks), refl))))))
+    (λ i h. ap (λ (l : List ℕ). number w32 1 ++ (number w32 (length i.tasks) ++ (costs i.costs ++ l))) (sym (append-nil (flat_map task i.tasks))))
+    (λ i h. record { costs = h.1.1.0; count = h.1.0; tasks = h.1.1.1.0.1 })
+    (λ i h. ((omega arith, omega arith), (h.count, (h.costs, ((refl, h.tasks), refl)))))
+
+image_at-is : (bytes : List ℕ) → image_at bytes ≡ after (magic_at bytes) (λ m. fields_at)
+unfolding image_at fields_at
+image_at-is bytes = refl
+
+behind_magic : (rest : List ℕ) → image_at (magic ++ rest) ≡ fields_at rest
+behind_magic rest = image_at-is (magic ++ rest) ∙ ap (λ r. after r (λ (m : List ℕ). fields_at)) (magic_again rest)
 
 -- ---- all of the bytes
 
@@ -355,12 +379,24 @@ ended_ok (Err f) x e = absurd cc
 
 pub image_takes : (bytes : List ℕ) (i : Image) → IsBytes bytes → ended (image_at bytes) ≡ Ok i → InRange i × (bytes ≡ spelling i)
 image_takes bytes i fits e =
-    let t = image_reads.takes bytes i [] fits (ended_ok (image_at bytes) i e) in
-    (t.1, t.0.parts ∙ append-nil (spelling i))
+    let b = bind_ok (magic_at bytes) (λ m. fields_at) (i, []) (sym (image_at-is bytes) ∙ ended_ok (image_at bytes) i e) in
+    let first = magic_takes bytes b.0 b.1 fits b.2 in
+    let second = fields_reads.takes b.1 i [] first.0.rest_fits b.3 in
+    let parts : bytes ≡ magic ++ b.1 = first.0.parts ∙ ap (λ (m : List ℕ). m ++ b.1) first.1 in
+    (second.1, parts ∙ ap (λ (l : List ℕ). magic ++ l) (second.0.parts ∙ append-nil (fields i)) ∙ sym (spelling_is i))
 
 -- a spelling with bytes behind it
 pub image_again : (i : Image) (rest : List ℕ) → InRange i → image_at (spelling i ++ rest) ≡ Ok (i, rest)
-image_again i rest h = image_reads.again i rest h
+image_again i rest h =
+    ap (λ (l : List ℕ). image_at (l ++ rest)) (spelling_is i) ∙ ap image_at (append_assoc magic (fields i) rest) ∙ behind_magic (fields i ++ rest) ∙ fields_reads.again i rest h
+
+-- a proper front of a spelling that has the magic
+pub image_cut : (i : Image) (front : List ℕ) (b : ℕ) (more : List ℕ) → InRange i → spelling i ≡ front ++ b ∷ more → 4 ≤ length front → ended (image_at front) ≡ Err faults.Cut
+image_cut i front b more h e long =
+    elim (cut_in magic (fields i) front b more (sym (spelling_is i) ∙ e)) [
+      | inl (c, rest, q) ↦ absurd (omega (arith, long, shorter magic front c rest q))
+      | inr (behind, q, r) ↦ ap (λ (l : List ℕ). ended (image_at l)) q ∙ ap ended (behind_magic behind ∙ fields_reads.cut i behind b more h r)
+    ]
 
 pub whole_again : (i : Image) → InRange i → ended (image_at (spelling i)) ≡ Ok i
 whole_again i h = ap (λ (l : List ℕ). ended (image_at l)) (sym (append-nil (spelling i))) ∙ ap ended (image_again i [] h)

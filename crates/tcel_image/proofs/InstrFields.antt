@@ -1,10 +1,11 @@
 -- Instructions as fields.
-use Rattle.std.proofs.Common.{◌≡◌, ℕ, ℤ, zero, suc, ◌^◌, ◌<◌, ◌≤◌, Bool, true, false, cond, eqb, List, ◌++◌, length, Ok, refl, sym, ap, subst, ◌∙◌, arith, append_assoc}
+use Rattle.std.proofs.Common.{◌≡◌, ℕ, ℤ, zero, suc, ◌^◌, ◌<◌, ◌≤◌, Bool, true, false, cond, eqb, List, ◌∷◌, ◌++◌, length, Ok, Err, refl, sym, ap, subst, ◌∙◌, arith, append_assoc}
 use Rattle.std.specs.Prelude.{FitsSigned, MatchBool}
 use Rattle.std.specs.Int.{w16, w32, w64, IsInRange}
 use Rattle.std.proofs.lemmas.List.{append-nil}
 use Rattle.tcel_num.specs.declared.op.Op.{Op}
 use Rattle.tcel_num.specs.declared.op.Op.TheVariants as ops
+use Rattle.tcel_image.specs.declared.fault.Fault.TheVariants as faults
 use Rattle.tcel_image.specs.declared.image.Line.{Line}
 use Rattle.tcel_image.specs.declared.image.Instr.{Instr}
 use Rattle.tcel_image.specs.declared.image.Instr.TheVariants as instrs
@@ -12,7 +13,7 @@ use Rattle.tcel_image.specs.declared.operands.Operands.{Operands}
 use Rattle.tcel_image.specs.declared.operands.Range.{Range}
 use Rattle.tcel_image.specs.Spelling.{number, value, byte, three, op_number, opcode, operator, operands, line, code, InstrInRange, LineInRange, CodeInRange}
 use Rattle.tcel_image.specs.Reading.{Reader, after, ◌>>=◌, done, number_at, byte_at, value_at, any_word, a_length, a_bound, unused, operands_at, const_at, op_from, instr_at, line_at, code_at}
-use Rattle.tcel_image.proofs.Readers.{IsBytes, Takes, Takes-then, Reads, given_value, given_rest, bind_ok, done_reads, bind_reads, as_reads}
+use Rattle.tcel_image.proofs.Readers.{IsBytes, Takes, Takes-then, Reads, given_value, given_rest, bind_ok, done_reads, bind_reads, as_reads, cut_after}
 use Rattle.tcel_image.proofs.Fields.{number_reads, byte_reads, value_reads, many_reads, wide16, wide32}
 
 abbrev Within : Range → ℕ → Type 0
@@ -284,11 +285,67 @@ instr_again (instrs.Copy a b c) rest h = three_again any_word any_word a_length 
 instr_again instrs.Mark rest h = none_again instrs.Mark rest
 instr_again instrs.End rest h = none_again instrs.End rest
 
+shape_cut : (in_a in_b in_c : Range) (make : Operands → Instr) → Bounded in_a in_b in_c → (q : Operands) (front : List ℕ) (b : ℕ) (more : List ℕ) → AreWithin in_a in_b in_c q
+    → spelled q ≡ front ++ b ∷ more → shape in_a in_b in_c make front ≡ Err faults.Cut
+shape_cut in_a in_b in_c make bounded q front b more h e =
+    ap (λ r. after r (λ o. done (make o))) ((operands_reads in_a in_b in_c bounded.a bounded.b bounded.c).cut q front b more h e)
+
+none_within : AreWithin unused unused unused (record { a = 0; b = 0; c = 0 })
+none_within = record { a = (omega arith, omega arith); b = (omega arith, omega arith); c = (omega arith, omega arith) }
+
+none_cut : (i : Instr) (front : List ℕ) (b : ℕ) (more : List ℕ) → three 0 0 0 ≡ front ++ b ∷ more → shape unused unused unused (λ _. i) front ≡ Err faults.Cut
+none_cut i front b more e =
+    shape_cut unused unused unused (λ _. i) (record { a = omega arith; b = omega arith; c = omega arith }) (record { a = 0; b = 0; c = 0 }) front b more none_within e
+
+one_cut : (in_a : Range) (make : ℕ → Instr) → in_a.greatest < 2 ^ 32 → (a : ℕ) (front : List ℕ) (b : ℕ) (more : List ℕ) → Within in_a a → three a 0 0 ≡ front ++ b ∷ more
+    → shape in_a unused unused (λ q. make q.a) front ≡ Err faults.Cut
+one_cut in_a make bound a front b more h e =
+    shape_cut in_a unused unused (λ q. make q.a) (record { a = bound; b = omega arith; c = omega arith }) (record { a = a; b = 0; c = 0 }) front b more
+    (record { a = h; b = (omega arith, omega arith); c = (omega arith, omega arith) }) e
+
+two_cut : (in_a in_b : Range) (make : ℕ → ℕ → Instr) → in_a.greatest < 2 ^ 32 → in_b.greatest < 2 ^ 32 → (a c : ℕ) (front : List ℕ) (b : ℕ) (more : List ℕ) → Within in_a a → Within in_b c
+    → three a c 0 ≡ front ++ b ∷ more → shape in_a in_b unused (λ q. make q.a q.b) front ≡ Err faults.Cut
+two_cut in_a in_b make bound_a bound_b a c front b more h k e =
+    shape_cut in_a in_b unused (λ q. make q.a q.b) (record { a = bound_a; b = bound_b; c = omega arith }) (record { a = a; b = c; c = 0 }) front b more
+    (record { a = h; b = k; c = (omega arith, omega arith) }) e
+
+three_cut : (in_a in_b in_c : Range) (make : ℕ → ℕ → ℕ → Instr) → in_a.greatest < 2 ^ 32 → in_b.greatest < 2 ^ 32 → in_c.greatest < 2 ^ 32 → (a c d : ℕ) (front : List ℕ) (b : ℕ) (more : List ℕ)
+    → Within in_a a → Within in_b c → Within in_c d → three a c d ≡ front ++ b ∷ more → shape in_a in_b in_c (λ q. make q.a q.b q.c) front ≡ Err faults.Cut
+three_cut in_a in_b in_c make bound_a bound_b bound_c a c d front b more h k l e =
+    shape_cut in_a in_b in_c (λ q. make q.a q.b q.c) (record { a = bound_a; b = bound_b; c = bound_c }) (record { a = a; b = c; c = d }) front b more (record { a = h; b = k; c = l }) e
+
+const_cut : (v : ℤ) (front : List ℕ) (b : ℕ) (more : List ℕ) → FitsSigned w64 v → operands (instrs.Const v) ≡ front ++ b ∷ more → const_at front ≡ Err faults.Cut
+unfolding const_at
+const_cut v front b more fits e =
+    cut_after value_at (λ w. number_at w32 0 0 >>= λ c. done (instrs.Const w)) v (value v) (number w32 0) front b more e
+    (λ f c m q. value_reads.cut v f c m fits q) (λ rest. value_reads.again v rest fits)
+    (λ f q. ap (λ r. after r (λ c. done (instrs.Const v))) ((number_reads w32 (2 ^ 32) 0 0 wide32 (omega arith)).cut 0 f b more (omega arith, omega arith) q))
+
+instr_cut : (i : Instr) (front : List ℕ) (b : ℕ) (more : List ℕ) → InstrInRange i → operands i ≡ front ++ b ∷ more → instr_at (opcode i) (operator i) front ≡ Err faults.Cut
+unfolding instr_at
+instr_cut (instrs.Const v) front b more h e = const_cut v front b more h e
+instr_cut (instrs.Get a) front b more h e = one_cut any_word (λ a. instrs.Get a) (omega arith) a front b more (is_word a h) e
+instr_cut (instrs.Put a) front b more h e = one_cut any_word (λ a. instrs.Put a) (omega arith) a front b more (is_word a h) e
+instr_cut (instrs.GetAt a c) front b more h e = two_cut any_word a_length (λ a c. instrs.GetAt a c) (omega arith) (omega arith) a c front b more (is_word a h.0) h.1 e
+instr_cut (instrs.PutAt a c) front b more h e = two_cut any_word a_length (λ a c. instrs.PutAt a c) (omega arith) (omega arith) a c front b more (is_word a h.0) h.1 e
+instr_cut (instrs.Arith op) front b more h e = none_cut (instrs.Arith (op_from (op_number op))) front b more e
+instr_cut (instrs.Jump a) front b more h e = one_cut any_word (λ a. instrs.Jump a) (omega arith) a front b more (is_word a h) e
+instr_cut (instrs.Branch a) front b more h e = one_cut any_word (λ a. instrs.Branch a) (omega arith) a front b more (is_word a h) e
+instr_cut (instrs.Loop a c d) front b more h e = three_cut any_word a_length any_word (λ a c d. instrs.Loop a c d) (omega arith) (omega arith) (omega arith) a c d front b more (is_word a h.0) h.1 (is_word d h.2) e
+instr_cut (instrs.Receive a c) front b more h e = two_cut any_word any_word (λ a c. instrs.Receive a c) (omega arith) (omega arith) a c front b more (is_word a h.0) (is_word c h.1) e
+instr_cut (instrs.Send a) front b more h e = one_cut any_word (λ a. instrs.Send a) (omega arith) a front b more (is_word a h) e
+instr_cut (instrs.Hold a) front b more h e = one_cut a_bound (λ a. instrs.Hold a) (omega arith) a front b more h e
+instr_cut (instrs.Copy a c d) front b more h e = three_cut any_word any_word a_length (λ a c d. instrs.Copy a c d) (omega arith) (omega arith) (omega arith) a c d front b more (is_word a h.0) (is_word c h.1) h.2 e
+instr_cut instrs.Mark front b more h e = none_cut instrs.Mark front b more e
+instr_cut instrs.End front b more h e = none_cut instrs.End front b more e
+
 instr_reads : (o p : ℕ) → IsInRange 1 15 o → OperatorFits o p → Reads (instr_at o p) operands (IsInstr o p)
 instr_reads o p h k = record {
   takes = λ bytes x rest fits e. instr_takes o p h k bytes x rest fits e;
   again = λ x rest is. subst (λ (n : ℕ). instr_at n p (operands x ++ rest) ≡ Ok (x, rest)) is.opcode_is
       (subst (λ (n : ℕ). instr_at (opcode x) n (operands x ++ rest) ≡ Ok (x, rest)) is.operator_is (instr_again x rest is.in_range));
+  cut = λ x front b more is e. subst (λ (n : ℕ). instr_at n p front ≡ Err faults.Cut) is.opcode_is
+      (subst (λ (n : ℕ). instr_at (opcode x) n front ≡ Err faults.Cut) is.operator_is (instr_cut x front b more is.in_range e));
 }
 
 -- ---- lines

@@ -1,14 +1,14 @@
 -- Names as fields.
-use Rattle.std.proofs.Common.{◌≡◌, ℕ, ◌+◌, ◌-◌, ◌≤◌, ◌^◌, true, false, cond, ltb, List, [], ◌∷◌, ◌++◌, length, take, drop, Ok, Err, refl, sym, ap, subst, ◌∙◌, arith, inl, inr}
+use Rattle.std.proofs.Common.{◌<◌, ◌≡◌, ℕ, ◌+◌, ◌-◌, ◌≤◌, ◌^◌, true, false, cond, ltb, List, [], ◌∷◌, ◌++◌, length, take, drop, Ok, Err, refl, sym, ap, subst, ◌∙◌, arith, inl, inr}
 use Rattle.std.specs.List.{list_all, prefix_len}
 use Rattle.std.specs.Int.{w16, IsInRange}
-use Rattle.std.proofs.lemmas.Bool.{ltb-false, le-ltb, cases_Bool, and_parts, and_from, true_from_ne_false}
+use Rattle.std.proofs.lemmas.Bool.{ltb-false, le-ltb, lt-ltb, cases_Bool, and_parts, and_from, true_from_ne_false}
 use Rattle.std.proofs.lemmas.List.{take_at, drop_at, take-append-drop, length-append, length-take}
 use Rattle.tcel_num.specs.Name.{IsName, is_word, is_reserved, may_start, may_follow}
 use Rattle.tcel_image.specs.declared.fault.Fault.TheVariants as faults
 use Rattle.tcel_image.specs.Spelling.{name, names, NamesInRange}
 use Rattle.tcel_image.specs.Reading.{name_front, text_at, name_at, names_at}
-use Rattle.tcel_image.proofs.Readers.{IsBytes, Takes, Reads, given, given_value, given_rest, bind_reads, as_reads}
+use Rattle.tcel_image.proofs.Readers.{IsBytes, Takes, Reads, given, given_value, given_rest, bind_reads, as_reads, shorter}
 use Rattle.tcel_image.proofs.Fields.{IsBytes-drop, guard_ok, number_reads, byte_reads, many_reads, wide16}
 
 all_follow : (bs : List ℕ) → length bs ≤ prefix_len may_follow bs → list_all may_follow bs ≡ true
@@ -80,10 +80,15 @@ text_again text rest is_name =
     let word_long : ltb (name_front text) (length text) ≡ false = le-ltb _ _ (front_from_word text is_name.word) in
     rw (long, take_at text rest (length text) refl, drop_at text rest (length text) refl, word_long, is_name.free) refl
 
+text_cut : (count : ℕ) (front : List ℕ) → length front < count → text_at count front ≡ Err faults.Cut
+unfolding text_at
+text_cut count front short = rw (lt-ltb (length front) count short) refl
+
 text_reads : (count : ℕ) → IsInRange 1 32 count → Reads (text_at count) (λ text. text) (λ text. (length text ≡ count) × IsName text)
 text_reads count range = record {
   takes = λ bytes text rest fits e. text_takes count range bytes text rest fits e;
   again = λ text rest fits. subst (λ n. text_at n (text ++ rest) ≡ Ok (text, rest)) fits.0 (text_again text rest fits.1);
+  cut = λ text front b more fits e. text_cut count front (omega (arith, fits.0, shorter text front b more e));
 }
 
 pub name_reads : Reads name_at name IsName

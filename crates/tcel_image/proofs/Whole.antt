@@ -1,5 +1,5 @@
 -- What all of the bytes spell.
-use Rattle.std.proofs.Common.{◌≡◌, ℕ, ◌-◌, ◌<◌, List, [], ◌∷◌, ◌++◌, length, Result, Ok, Err, sym, ap, ◌∙◌, arith, length-append, All, inl, inr, eqb}
+use Rattle.std.proofs.Common.{◌≡◌, ℕ, ◌-◌, ◌<◌, ◌≤◌, List, [], ◌∷◌, ◌++◌, length, Result, Ok, Err, sym, ap, ◌∙◌, arith, length-append, All, inl, inr, eqb}
 use Rattle.std.proofs.lemmas.Bool.{cases_lt, cond-false, ne_eqb}
 use Rattle.std.proofs.lemmas.List.{append-nil, get_or_past}
 use Rattle.std.specs.Prelude.{IfOk}
@@ -11,7 +11,7 @@ use Rattle.tcel_image.specs.declared.image.Image.{Image}
 use Rattle.tcel_image.specs.Spelling.{spelling, InRange}
 use Rattle.tcel_image.specs.Reading.{image_at, ended, placed, reading, Answers}
 use Rattle.tcel_image.proofs.Readers.{IsBytes, given_value, given_rest}
-use Rattle.tcel_image.proofs.ImageFields.{image_takes, image_again, whole_again}
+use Rattle.tcel_image.proofs.ImageFields.{image_takes, image_again, image_cut, whole_again}
 
 placed_ok : {A : Type 0} (total : ℕ) (r : Result A Fault) (x : A) → placed total r ≡ Ok x → r ≡ Ok x
 placed_ok total (Ok y) x e = cc
@@ -60,3 +60,7 @@ extra_behind i b more h =
     let all = spelling i ++ b ∷ more in
     let place : length all - length (b ∷ more) ≡ length (spelling i) = omega (arith, length-append (spelling i) (b ∷ more)) in
     ap (λ r. placed (length all) (ended r)) (image_again i (b ∷ more) h) ∙ ap (placed (length all)) (ended_more i b more) ∙ ap (λ (n : ℕ). Err (fails.Extra n)) place
+
+pub short_front : (i : Image) (front : List ℕ) (b : ℕ) (more : List ℕ) → InRange i → spelling i ≡ front ++ b ∷ more → 4 ≤ length front → reading front ≡ Err (fails.Short (length front))
+unfolding reading
+short_front i front b more h e long = ap (placed (length front)) (image_cut i front b more h e long)

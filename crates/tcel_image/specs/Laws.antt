@@ -1,5 +1,5 @@
 -- Laws of the spelling of images.
-use Rattle.std.specs.Prelude.{◌≡◌, ℕ, ◌<◌, List, [], ◌∷◌, ◌++◌, length, Ok, Err, All}
+use Rattle.std.specs.Prelude.{◌≡◌, ℕ, ◌<◌, ◌≤◌, List, [], ◌∷◌, ◌++◌, length, Ok, Err, All}
 use Rattle.tcel_image.specs.declared.fault.ImageFail.TheVariants as fails
 use Rattle.tcel_image.specs.declared.image.Image.{Image}
 use Rattle.tcel_image.specs.Spelling.{spelling, InRange}
@@ -24,3 +24,7 @@ IsReadOnlySo = (bytes : List ℕ) (i : Image) → All (λ b. b < 256) bytes → 
 -- bytes behind a spelling are extra, from the first of them on
 abbrev pub IsExtraBehind : Type 0
 IsExtraBehind = (i : Image) (b : ℕ) (more : List ℕ) → InRange i → reading (spelling i ++ b ∷ more) ≡ Err (fails.Extra (length (spelling i)))
+
+-- a front of a spelling, of four bytes and more, is short of the rest
+abbrev pub IsShortFront : Type 0
+IsShortFront = (i : Image) (front : List ℕ) (b : ℕ) (more : List ℕ) → InRange i → spelling i ≡ front ++ b ∷ more → 4 ≤ length front → reading front ≡ Err (fails.Short (length front))

@@ -3,17 +3,18 @@ ghost use Rattle.tcel_image.specs.Spelling.{spelling};
 ghost use Rattle.tcel_image.specs.Reading.{reading};
 ghost use Rattle.tcel_image.specs.Examples.{echo};
 ghost use Rattle.tcel_image.specs.SpellingExample.{echo_bytes};
-ghost use Rattle.tcel_image.specs.Laws.{IsTold, IsPrefixFree, IsReadAgain, IsReadOnlySo, IsExtraBehind};
+ghost use Rattle.tcel_image.specs.Laws.{IsTold, IsPrefixFree, IsReadAgain, IsReadOnlySo, IsExtraBehind, IsShortFront};
 
 /// Laws of the spelling of images, for proofs. Each image in range has one spelling and no other image
-/// has it, none is a proper front of another, a spelling is read as its image, nothing else is read, and
-/// bytes behind a spelling are extra.
+/// has it, none is a proper front of another, a spelling is read as its image, nothing else is read,
+/// bytes behind a spelling are extra, and a front of it is short.
 pub fn spelling_laws()
     ensures told { IsTold }
     ensures prefix_free { IsPrefixFree }
     ensures read_again { IsReadAgain }
     ensures read_only_so { IsReadOnlySo }
     ensures extra_behind { IsExtraBehind }
+    ensures short_front { IsShortFront }
 {}
 
 /// The spelling of one small image, byte by byte.

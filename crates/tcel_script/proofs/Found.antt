@@ -84,10 +84,7 @@ mapped_some i (Some j) place h =
     let e : (i, j) ≡ place = same_Some (i, j) place h in
     (ap (λ (q : ℕ × ℕ). q.0) e, ap (λ (q : ℕ × ℕ). let o : Option ℕ = Some q.1 in o) e)
 
--- the inputs of the task at a place
-inputs_at : List PortRow → ℕ → List (List ℕ)
-inputs_at ports i = get_or (map (λ row. row.inputs) ports) i []
-
+-- the places of a task and of its input
 pub record IsPlace (ports : List PortRow) (task port : List ℕ) (place : ℕ × ℕ) : Type 0 where
   pub of_task : position (λ row. same row.task task) ports ≡ Some place.0
   pub of_port : position (λ input. same input port) (get_or (map (λ row. row.inputs) ports) place.0 []) ≡ Some place.1

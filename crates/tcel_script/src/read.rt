@@ -9,7 +9,8 @@ use crate::script::Script;
 use std::alloc::Global;
 use tcel_num::PortRow;
 
-/// The streams of a script of at most 16,777,216 bytes for these ports (docs/formats.md).
+/// The streams of a script for these ports, or its first faulty line (docs/formats.md). It has at most
+/// 16,777,216 bytes, and no two tasks of the ports have one name, nor two inputs of one task.
 pub fn read_script(alloc: Global, bytes: &[u8], ports: &[PortRow]) -> Result<Script, ScriptFail>
     requires short { length bytes.now ≤ 16777216 }
     requires distinct { HaveDistinctNames ports.now }

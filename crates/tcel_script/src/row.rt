@@ -14,6 +14,7 @@ use tcel_num::{Name, NoMemory, PortRow};
 /// For each input of a task, the values that a line gave.
 pub(crate) type Row = Items<Option<Items<i64>>>;
 
+/// A row for each task.
 pub(crate) type Rows = Vec<Row>;
 
 /// A place for each input, with no values yet.

@@ -7,3 +7,4 @@ pub mod Hyperperiod
 pub mod PlainTree
 pub mod CanonicalText
 pub mod Examples
+pub mod Headline

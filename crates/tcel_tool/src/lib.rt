@@ -2,7 +2,9 @@
 #![tactic(auto)]
 
 mod examples;
+mod headline;
 mod plain_tree;
 
 pub use examples::{cost_examples, layout_examples, text_examples};
+pub use headline::compiled_programs_meet_their_source;
 pub use plain_tree::{Operand, PlainDecl, PlainExpr, PlainKind, PlainStmt, PlainTree};

@@ -1,4 +1,4 @@
-use Rattle.tcel_image.proofs.Whole.{prefix_free, told_apart, reading_again, reading_takes, bytes_from_all, extra_behind}
+use Rattle.tcel_image.proofs.Whole.{prefix_free, told_apart, reading_again, reading_takes, bytes_from_all, extra_behind, short_front}
 use Rattle.tcel_image.proofs.laws.spelling_laws.Goals as goal
 
 pub returns-clause-told : goal.returns-clause-told
@@ -15,3 +15,6 @@ returns-clause-read_only_so c = λ bytes i fits e. reading_takes bytes i (bytes_
 
 pub returns-clause-extra_behind : goal.returns-clause-extra_behind
 returns-clause-extra_behind c = λ i b more h. extra_behind i b more h
+
+pub returns-clause-short_front : goal.returns-clause-short_front
+returns-clause-short_front c = λ i front b more h e long. short_front i front b more h e long

@@ -1,0 +1,23 @@
+-- The promise of the compiler: every run of a written image does what the source says.
+use Rattle.std.specs.Prelude.{◌≡◌, ℕ, ◌≤◌, ℤ, List, [], ◌∷◌, length}
+use Rattle.tcel_num.specs.Plan.{Plan}
+use Rattle.tcel_core.specs.Meets.{Meets}
+use Rattle.tcel_image.specs.declared.costs.Costs.{Costs}
+use Rattle.tcel_image.specs.Costs.{CostsInRange}
+use Rattle.tcel_image.specs.Machine.{trace}
+use Rattle.tcel_tool.specs.Layout.{image_of}
+use Rattle.tcel_tool.specs.PlainTree.{IsPlain, task_of, set_of}
+use Rattle.tcel_tool.specs.WholePlan.{IsWholePlan}
+use Rattle.tcel_tool.specs.declared.plain_tree.PlainTree.{PlainTree}
+
+-- over any streams of its inputs and for any number of ticks, the trace of a program's image meets the program, by its plan
+abbrev pub RunsMeet : PlainTree → Costs → Plan → Type 0
+RunsMeet tree costs plan =
+    (streams : List (List ℤ)) (ticks : ℕ) → length streams ≡ length (task_of tree).inputs →
+    Meets (set_of tree) (plan ∷ []) (streams ∷ []) ticks (trace (image_of (set_of tree) costs) (streams ∷ []) ticks)
+
+-- this is so of every plain program whose frames take no longer than its period
+abbrev pub CompiledProgramsMeetTheirSource : Type 0
+CompiledProgramsMeetTheirSource =
+    (tree : PlainTree) (costs : Costs) (plan : Plan) → IsPlain tree → CostsInRange costs → IsWholePlan (task_of tree) costs plan →
+    plan.total ≤ plan.period → RunsMeet tree costs plan
