@@ -1,12 +1,12 @@
 -- A cycle of a task.
-use Rattle.std.proofs.Common.{◌≡◌, ℕ, ◌+◌, ◌*◌, ◌^◌, ◌<◌, ◌≤◌, ℤ, pos, true, false, cond, List, length, get_or, Some, refl, ap, sym, ◌∙◌, subst, arith}
+use Rattle.std.proofs.Common.{◌≡◌, ℕ, ◌+◌, ◌*◌, ◌^◌, ◌<◌, ◌≤◌, ℤ, pos, true, false, cond, List, length, get_or, Some, ap, sym, ◌∙◌, subst, arith}
 use Rattle.std.specs.List.{slice_get}
 use Rattle.std.proofs.lemmas.Option.{slice_get-get_or}
 use Rattle.tcel_image.specs.declared.costs.Costs.{Costs}
 use Rattle.tcel_image.specs.declared.image.ImageTask.{ImageTask}
 use Rattle.tcel_image.specs.declared.image.Instr.TheVariants.{Const}
 use Rattle.tcel_image.specs.declared.image.Line.{Line}
-use Rattle.tcel_image.specs.Machine.{Running, Outcome, effect, spend, cycle, cycle_of, is_last_cycle}
+use Rattle.tcel_image.specs.Machine.{Running, effect, spend, cycle, cycle_of, is_last_cycle}
 use Rattle.tcel_image.specs.Spelling.{TaskInRange, state_words}
 use Rattle.tcel_machine.specs.declared.task.Task.{Task}
 use Rattle.tcel_machine.specs.Task.{running_of, Becomes, CanRun}

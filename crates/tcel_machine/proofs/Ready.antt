@@ -1,17 +1,17 @@
 -- Which task is ready, and what a tick keeps of all.
-use Rattle.std.proofs.Common.{◌≡◌, ℕ, zero, suc, ◌+◌, ◌*◌, ◌/◌, ◌<◌, ◌≤◌, Bool, true, false, ltb, leb, ◌⊎◌, inl, inr, ⊎_elim, List, [], ◌∷◌, length, get_or, set, map, Option, Some, None, refl, ap, sym, ◌∙◌, subst, arith}
+use Rattle.std.proofs.Common.{◌≡◌, ℕ, zero, suc, ◌+◌, ◌*◌, ◌/◌, ◌<◌, ◌≤◌, true, false, ltb, leb, ◌⊎◌, inl, inr, ⊎_elim, List, [], ◌∷◌, length, get_or, set, map, Option, Some, None, refl, ap, sym, ◌∙◌, subst, arith}
 use Rattle.std.specs.List.{slice_get}
 use Rattle.std.specs.Option.{option_map_or}
 use Rattle.std.proofs.lemmas.List.{length-map}
 use Rattle.std.proofs.Math.ListN.{length-set}
 use Rattle.std.proofs.Math.Nat.{le-div_iff_mul-le}
-use Rattle.std.proofs.lemmas.Bool.{cases_lt, lt-leb, le-leb, le-ltb, lt-ltb, leb-true, ltb-true}
-use Rattle.std.proofs.lemmas.Option.{none-some, same_Some, slice_get-map, slice_get_past, slice_get_read}
+use Rattle.std.proofs.lemmas.Bool.{cases_lt, lt-leb, le-leb, le-ltb, lt-ltb, leb-true}
+use Rattle.std.proofs.lemmas.Option.{same_Some, slice_get-map, slice_get_past, slice_get_read}
 use Rattle.tcel_image.specs.declared.image.ImageTask.{ImageTask}
 use Rattle.tcel_image.specs.Machine.{Running, is_ready}
 use Rattle.tcel_machine.specs.declared.task.Task.{Task}
 use Rattle.tcel_machine.specs.Task.{running_of}
-use Rattle.tcel_machine.specs.Runs.{ready_at, HasCounts, IsRunning, AllRun}
+use Rattle.tcel_machine.specs.Runs.{ready_at, IsRunning, AllRun}
 
 -- a frame is released and not ended exactly where its release is not later than now
 pub released : (ended period now : ℕ) → 0 < period → leb (ended * period) now ≡ ltb ended (now / period + 1)

@@ -1,19 +1,18 @@
 -- A tick in which a task has a cycle.
-use Rattle.std.proofs.Common.{◌≡◌, ℕ, ◌+◌, ◌<◌, ◌≤◌, true, ⊎_elim, List, [], length, get_or, set, take, map, get_or-set_same, Option, Some, None, refl, ap, sym, ◌∙◌, subst, arith}
+use Rattle.std.proofs.Common.{◌≡◌, ℕ, ◌+◌, ◌<◌, ◌≤◌, ⊎_elim, List, [], length, get_or, set, take, map, get_or-set_same, Option, Some, None, refl, ap, sym, ◌∙◌, arith}
 use Rattle.std.specs.List.{slice_get}
 use Rattle.std.specs.Option.{option_map, option_map_or}
 use Rattle.std.proofs.lemmas.List.{map-set}
 use Rattle.std.proofs.Math.ListN.{length-set}
-use Rattle.std.proofs.lemmas.Option.{slice_get-map, slice_get-get_or, slice_get_read, slice_get_cases, get_or_from_slice_get}
+use Rattle.std.proofs.lemmas.Option.{slice_get-map, slice_get_read, slice_get_cases, get_or_from_slice_get}
 use Rattle.tcel_num.specs.Entry as plain
 use Rattle.tcel_image.specs.declared.image.Image.{Image}
 use Rattle.tcel_image.specs.declared.image.ImageTask.{ImageTask}
 use Rattle.tcel_image.specs.Machine.{Running, Streams, Outcome, Ticked, cycle, entry_of, tick_from}
 use Rattle.tcel_image.specs.Spelling.{state_words}
-use Rattle.tcel_machine.specs.declared.entry.Entry.{Entry}
 use Rattle.tcel_machine.specs.declared.entry.What.{What}
 use Rattle.tcel_machine.specs.declared.task.Task.{Task}
-use Rattle.tcel_machine.specs.Run.{state_in, entry_seen, Tells}
+use Rattle.tcel_machine.specs.Run.{state_in, Tells}
 use Rattle.tcel_machine.specs.Runs.{IsRunning, AllRun, IsFirstReady}
 use Rattle.tcel_machine.specs.Seen.{seen}
 use Rattle.tcel_machine.specs.Task.{running_of, state_of, Shows}

@@ -1,5 +1,5 @@
 -- A line of a valid image can run, and leads to a line that can.
-use Rattle.std.proofs.Common.{◌≡◌, ℕ, zero, suc, ◌+◌, ◌-◌, ◌*◌, ◌^◌, ◌<◌, ◌≤◌, ℤ, pos, negsuc, Bool, true, false, not, cond, ◌&&◌, ◌||◌, ◌==◌, ltb, leb, int_lt, ◌⊎◌, List, [], ◌∷◌, ◌++◌, length, get_or, take, drop, set, replicate, Option, Some, None, refl, ap, sym, ◌∙◌, subst, arith, length-append, length-take, length-drop}
+use Rattle.std.proofs.Common.{◌≡◌, ℕ, zero, suc, ◌+◌, ◌-◌, ◌*◌, ◌^◌, ◌<◌, ◌≤◌, ℤ, pos, negsuc, Bool, true, false, not, cond, ◌&&◌, ◌||◌, ◌==◌, ltb, leb, int_lt, List, [], ◌∷◌, length, get_or, set, Option, Some, None, refl, ap, sym, ◌∙◌, subst, arith, length-append, length-take, length-drop}
 use Rattle.std.specs.List.{list_any, slice_get}
 use Rattle.std.specs.Option.{option_map_or}
 use Rattle.std.proofs.lemmas.List.{length-replicate}
@@ -8,18 +8,17 @@ use Rattle.std.proofs.lemmas.Bool.{or_parts, ltb-false, leb-false, eqb-true, not
 use Rattle.std.proofs.lemmas.Bool.Decides.{nat_tests}
 use Rattle.std.proofs.lemmas.Option.{none-some, same_Some}
 use Rattle.tcel_num.specs.declared.op.Op.{Op}
-use Rattle.tcel_num.specs.Arithmetic.{is_unary, holds, unary_value, binary_value}
-use Rattle.tcel_num.specs.Words.{element, with_element, copied}
+use Rattle.tcel_num.specs.Arithmetic.{is_unary, holds}
+use Rattle.tcel_num.specs.Words.{with_element, copied}
 use Rattle.tcel_image.specs.declared.flaw.FlawKind.TheVariants.{JumpOut, BadCell, BadPort, BadDepth, FallsOff}
 use Rattle.tcel_image.specs.declared.image.ImageTask.{ImageTask}
 use Rattle.tcel_image.specs.declared.image.Instr.{Instr}
 use Rattle.tcel_image.specs.declared.image.Instr.TheVariants.{Const, Get, Put, GetAt, PutAt, Arith, Jump, Branch, Loop, Receive, Send, Hold, Copy, Mark, End}
 use Rattle.tcel_image.specs.declared.image.Line.{Line}
-use Rattle.tcel_image.specs.Instructions.{pops, pushes, next_places, depth_after}
+use Rattle.tcel_image.specs.Instructions.{pops, pushes, next_places}
 use Rattle.tcel_image.specs.Machine.{Running, top, below, applied, counted, effect}
-use Rattle.tcel_image.specs.Validity.{jumps_out, has_bad_cell, has_bad_port, has_other_depth, is_end, falls_off, has_bad_depth, line_has, goes_on}
+use Rattle.tcel_image.specs.Validity.{jumps_out, has_bad_cell, has_bad_port, has_other_depth, is_end, falls_off, goes_on}
 use Rattle.tcel_machine.specs.Task.{CanRun}
-use Rattle.tcel_image.specs.Spelling.{state_words}
 use Rattle.tcel_machine.specs.Runs.{IsTaskValid, HasShape, HasCounts}
 
 -- a line without flaws, fact by fact

@@ -1,5 +1,5 @@
 -- The tasks of a valid image, and how they start.
-use Rattle.std.proofs.Common.{◌≡◌, ℕ, zero, suc, ◌+◌, ◌-◌, ◌*◌, ◌<◌, ◌≤◌, ℤ, pos, Bool, true, false, eqb, ◌⊎◌, inl, inr, ⊎_elim, List, [], ◌∷◌, ◌++◌, length, get_or, take, map, replicate, All, Some, None, Option, refl, ap, sym, ◌∙◌, subst, arith, length-append}
+use Rattle.std.proofs.Common.{◌≡◌, ℕ, zero, suc, ◌+◌, ◌-◌, ◌<◌, ◌≤◌, ℤ, pos, false, ◌⊎◌, inl, inr, ⊎_elim, List, [], ◌∷◌, ◌++◌, length, get_or, take, map, replicate, All, Some, refl, ap, sym, ◌∙◌, subst, arith, length-append}
 use Rattle.std.specs.List.{slice_get, flat_map, sum_by}
 use Rattle.std.specs.Option.{option_map_or}
 use Rattle.std.proofs.lemmas.Bool.{or_parts, eqb-false, ltb-false}
@@ -15,7 +15,7 @@ use Rattle.tcel_image.specs.declared.image.ImageTask.{ImageTask}
 use Rattle.tcel_image.specs.declared.image.Line.{Line}
 use Rattle.tcel_image.specs.Machine.{Running, first_cells, start_task}
 use Rattle.tcel_image.specs.Spelling.{InRange, TaskInRange, StateInRange, state_words}
-use Rattle.tcel_image.specs.Validity.{IsValid, has_bad_period, line_has, task_has, has_flaw}
+use Rattle.tcel_image.specs.Validity.{IsValid, line_has, task_has}
 use Rattle.tcel_machine.specs.declared.task.Task.{Task}
 use Rattle.tcel_machine.specs.Task.{running_of}
 use Rattle.tcel_machine.specs.Runs.{IsTaskValid, HasShape, HasCounts, IsRunning, AreSound}

@@ -1,11 +1,11 @@
 -- A tick of a list of tasks, by the first that is ready.
-use Rattle.std.proofs.Common.{◌≡◌, ℕ, zero, suc, ◌+◌, ◌<◌, ◌≤◌, Bool, true, false, List, [], ◌∷◌, length, get_or, set, Option, Some, None, refl, ap, sym, ◌∙◌, arith}
+use Rattle.std.proofs.Common.{◌≡◌, ℕ, zero, suc, ◌+◌, ◌<◌, true, false, List, [], ◌∷◌, get_or, set, Option, Some, None, refl, ap, sym, ◌∙◌, arith}
 use Rattle.std.specs.List.{slice_get}
 use Rattle.std.specs.Option.{option_map_or}
 use Rattle.std.proofs.lemmas.Bool.{false≢true}
 use Rattle.tcel_image.specs.declared.costs.Costs.{Costs}
 use Rattle.tcel_image.specs.declared.image.ImageTask.{ImageTask}
-use Rattle.tcel_image.specs.Machine.{Running, Streams, Ticked, cycle, is_ready, after, runs, entry_of, tick_from}
+use Rattle.tcel_image.specs.Machine.{Running, Streams, Ticked, cycle, after, entry_of, tick_from}
 use Rattle.tcel_machine.specs.Runs.{ready_at}
 
 -- what a tick leaves in which the task of this number has a cycle

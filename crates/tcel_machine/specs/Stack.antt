@@ -1,5 +1,5 @@
 -- A stack as the list of its words, its top first.
-use Rattle.std.specs.Prelude.{◌≡◌, ℕ, ◌≤◌, ℤ, List, reverse, take, length}
+use Rattle.std.specs.Prelude.{◌≡◌, ◌≤◌, ℤ, List, reverse, take, length}
 use Rattle.tcel_machine.specs.declared.stack.Stack.TheInside.{Inside}
 
 abbrev pub words_of : Inside → List ℤ

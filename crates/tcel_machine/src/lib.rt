@@ -14,3 +14,6 @@ mod task;
 
 pub use entry::{Entry, What};
 pub use machine::Machine;
+
+#[cfg(test)]
+mod tests;

@@ -1,7 +1,7 @@
-use Rattle.std.proofs.Common.{◌≡◌, List, [], get_or, slice_index_or, ap, sym, ◌∙◌, subst}
+use Rattle.std.proofs.Common.{[], slice_index_or, ap, sym, ◌∙◌}
 use Rattle.tcel_image.specs.Machine.{Outcome}
-use Rattle.tcel_machine.specs.Task.{running_of, Shows}
-use Rattle.tcel_machine.proofs.Cycles.{no_line, line_at, can, runs_on, ends_now, spends}
+use Rattle.tcel_machine.specs.Task.{running_of}
+use Rattle.tcel_machine.proofs.Cycles.{line_at, can, runs_on, ends_now, spends}
 use Rattle.tcel_machine.proofs.cycle.cycle.Goals as goal
 
 pub execute-requires-clause-can : goal.execute-requires-clause-can

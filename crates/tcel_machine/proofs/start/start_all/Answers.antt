@@ -1,4 +1,4 @@
-use Rattle.std.proofs.Common.{◌≡◌, ◌+◌, ◌<◌, List, [], ◌∷◌, ◌++◌, length, map, Some, refl, ap, sym, ◌∙◌, subst, arith, length-append}
+use Rattle.std.proofs.Common.{◌≡◌, List, length, Some, refl, ap, ◌∙◌, subst, arith, length-append}
 use Rattle.std.specs.List.{slice_get}
 use Rattle.tcel_image.specs.declared.image.ImageTask.{ImageTask}
 use Rattle.tcel_machine.proofs.Ready.{read_at}

@@ -1,6 +1,4 @@
-use Rattle.std.proofs.Common.{◌≡◌, ◌<◌, List, length, map, Some, refl, ap, sym, ◌∙◌, arith}
-use Rattle.std.proofs.lemmas.Option.{slice_get_read}
-use Rattle.tcel_image.specs.declared.image.ImageTask.{ImageTask}
+use Rattle.std.proofs.Common.{◌<◌, length, map, refl, ap, sym, ◌∙◌, arith}
 use Rattle.tcel_machine.specs.Task.{running_of}
 use Rattle.tcel_machine.proofs.Ready.{read_at, ready_is, passed, none_ready}
 use Rattle.tcel_machine.proofs.step.first_ready.Goals as goal
