@@ -1,0 +1,15 @@
+//! The text of a trace: the line of an entry, written into a buffer that has room for it.
+#![tactic(auto)]
+
+mod buffer;
+mod entry;
+mod line;
+mod numbers;
+mod states;
+
+pub use buffer::Buffer;
+pub use entry::{Entry, What};
+pub use line::put_line;
+
+#[cfg(test)]
+mod tests;
