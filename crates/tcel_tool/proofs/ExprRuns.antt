@@ -108,62 +108,73 @@ operator_takes costs ranges Rem = (ranges keys.Divide).0
 operator_takes costs ranges _ = (ranges keys.Arith).0
 
 module _ (costs : Costs) (task : ImageTask) (inputs : List (List ℤ)) (last : Running) (ended : ℕ) (taken : List ℕ) (dues : List Due) where
-  -- the same counts and places
-  pub ahead_at : (ran ran' p p' : ℕ) (stack cells : List ℤ) → ran ≡ ran' → p ≡ p' →
-      Ahead costs task inputs last ran (ready_at p stack cells ended taken) dues → Ahead costs task inputs last ran' (ready_at p' stack cells ended taken) dues
-  ahead_at ran ran' p p' stack cells e f ahead =
-      subst (λ n. Ahead costs task inputs last n (ready_at p' stack cells ended taken) dues) e
-      (subst (λ n. Ahead costs task inputs last ran (ready_at n stack cells ended taken) dues) f ahead)
+  -- the same counts, times and places
+  pub ahead_at : (ran ran' since since' p p' : ℕ) (stack cells : List ℤ) → ran ≡ ran' → since ≡ since' → p ≡ p' →
+      Ahead costs task inputs last ran since (ready_at p stack cells ended taken) dues → Ahead costs task inputs last ran' since' (ready_at p' stack cells ended taken) dues
+  ahead_at ran ran' since since' p p' stack cells e g f ahead =
+      subst (λ n. Ahead costs task inputs last n since' (ready_at p' stack cells ended taken) dues) e
+      (subst (λ n. Ahead costs task inputs last ran n (ready_at p' stack cells ended taken) dues) g
+      (subst (λ n. Ahead costs task inputs last ran since (ready_at n stack cells ended taken) dues) f ahead))
 
   -- an instruction that shows nothing
   pub quiet_step : (instr : Instr) (depth : ℕ) → EndsByCycles costs task.period instr → 0 < cycles costs instr →
-      (p p' ran : ℕ) (stack stack' cells cells' : List ℤ) → slice_get task.code p ≡ Some (record { instr = instr; depth = depth }) →
+      (p p' ran since : ℕ) (stack stack' cells cells' : List ℤ) → slice_get task.code p ≡ Some (record { instr = instr; depth = depth }) →
       ((spent : ℕ) → effect (state_words task.states) inputs instr (after_cycles spent (ready_at p stack cells ended taken)) ≡ quietly (ready_at p' stack' cells' ended taken)) →
-      Ahead costs task inputs last (ran + cycles costs instr) (ready_at p' stack' cells' ended taken) dues →
-      Ahead costs task inputs last ran (ready_at p stack cells ended taken) dues
-  quiet_step instr depth by some p p' ran stack stack' cells cells' here does ahead =
+      Ahead costs task inputs last (ran + cycles costs instr) (since + cycles costs instr) (ready_at p' stack' cells' ended taken) dues →
+      Ahead costs task inputs last ran since (ready_at p stack cells ended taken) dues
+  quiet_step instr depth by some p p' ran since stack stack' cells cells' here does ahead =
       let r = ready_at p stack cells ended taken in
       let more : ℕ = cycles costs instr - 1 in
       let n : cycles costs instr ≡ suc more = omega arith in
       let is : IsAt costs task instr more r =
       record { depth = depth; here = here; lasts = λ now spent. by now (after_cycles spent r) ∙ ap (λ k. nat_le k (spent + 1)) n } in
-      passes costs task inputs instr more r is last (ready_at p' stack' cells' ended taken) dues ran (does more) refl
-      (subst (λ k. Ahead costs task inputs last (ran + k) (ready_at p' stack' cells' ended taken) dues) n ahead)
+      passes costs task inputs instr more r is last (ready_at p' stack' cells' ended taken) dues ran since (does more) refl
+      (subst (λ k. Ahead costs task inputs last (ran + k) (since + k) (ready_at p' stack' cells' ended taken) dues) n ahead)
 
 module _ (costs : Costs) (ranges : CostsInRange costs) (task : ImageTask) (inputs : List (List ℤ)) (last : Running) (vars : List Var) (cells : List ℤ) (ended : ℕ) (taken : List ℕ) (dues : List Due) where
   -- an expression's code leaves the value on the stack
-  pub expr_runs : (e : Expr) → HaveOperands e → (depth p ran : ℕ) (stack : List ℤ) → Stands task.code p (expr_code e vars depth) →
-      Ahead costs task inputs last (ran + code_cycles costs (expr_code e vars depth)) (ready_at (p + length (expr_code e vars depth)) (value e vars cells ∷ stack) cells ended taken) dues →
-      Ahead costs task inputs last ran (ready_at p stack cells ended taken) dues
-  expr_runs (number n) ok depth p ran stack stands ahead =
-      quiet_step costs task inputs last ended taken dues (Const n) depth (λ now r. refl) (ranges keys.Const).0 p (p + 1) ran stack _ cells cells stands.0 (λ spent. refl)
-      (ahead_at costs task inputs last ended taken dues _ _ _ _ _ cells (omega arith) (omega arith) ahead)
-  expr_runs (variable v) ok depth p ran stack stands ahead =
-      quiet_step costs task inputs last ended taken dues (Get (place vars v)) depth (λ now r. refl) (ranges keys.Load).0 p (p + 1) ran stack _ cells cells stands.0 (λ spent. refl)
-      (ahead_at costs task inputs last ended taken dues _ _ _ _ _ cells (omega arith) (omega arith) ahead)
-  expr_runs (element v i) ok depth p ran stack stands ahead =
+  pub expr_runs : (e : Expr) → HaveOperands e → (depth p ran since : ℕ) (stack : List ℤ) → Stands task.code p (expr_code e vars depth) →
+      Ahead costs task inputs last (ran + code_cycles costs (expr_code e vars depth)) (since + code_cycles costs (expr_code e vars depth))
+      (ready_at (p + length (expr_code e vars depth)) (value e vars cells ∷ stack) cells ended taken) dues →
+      Ahead costs task inputs last ran since (ready_at p stack cells ended taken) dues
+  expr_runs (number n) ok depth p ran since stack stands ahead =
+      quiet_step costs task inputs last ended taken dues (Const n) depth (λ now r. refl) (ranges keys.Const).0 p (p + 1) ran since stack (n ∷ stack) cells cells stands.0 (λ spent. refl)
+      (ahead_at costs task inputs last ended taken dues _ _ _ _ _ _ (n ∷ stack) cells (omega arith) (omega arith) (omega arith) ahead)
+  expr_runs (variable v) ok depth p ran since stack stands ahead =
+      let x = value (variable v) vars cells in
+      quiet_step costs task inputs last ended taken dues (Get (place vars v)) depth (λ now r. refl) (ranges keys.Load).0 p (p + 1) ran since stack (x ∷ stack) cells cells stands.0 (λ spent. refl)
+      (ahead_at costs task inputs last ended taken dues _ _ _ _ _ _ (x ∷ stack) cells (omega arith) (omega arith) (omega arith) ahead)
+  expr_runs (element v i) ok depth p ran since stack stands ahead =
       let index = expr_code i vars depth in
       let get = at (depth + 1) (GetAt (place vars v) (width vars v)) in
-      expr_runs i ok depth p ran stack (stands_front task.code p index get stands)
+      let x = value (element v i) vars cells in
+      let all = cycles-append costs index get in
+      expr_runs i ok depth p ran since stack (stands_front task.code p index get stands)
       (quiet_step costs task inputs last ended taken dues (GetAt (place vars v) (width vars v)) (depth + 1) (λ now r. refl) (ranges keys.LoadAt).0 (p + length index) (p + length index + 1)
-      (ran + code_cycles costs index) (value i vars cells ∷ stack) _ cells cells (stands_back task.code p index get stands).0 (λ spent. refl)
-      (ahead_at costs task inputs last ended taken dues _ _ _ _ _ cells (omega (arith, cycles-append costs index get)) (omega (arith, length-append index get)) ahead))
-  expr_runs (unary op e) ok depth p ran stack stands ahead =
+      (ran + code_cycles costs index) (since + code_cycles costs index) (value i vars cells ∷ stack) (x ∷ stack) cells cells (stands_back task.code p index get stands).0 (λ spent. refl)
+      (ahead_at costs task inputs last ended taken dues _ _ _ _ _ _ (x ∷ stack) cells (omega arith) (omega arith) (omega (arith, length-append index get)) ahead))
+  expr_runs (unary op e) ok depth p ran since stack stands ahead =
       let inner = expr_code e vars depth in
       let apply = at (depth + 1) (Arith op) in
-      expr_runs e ok.1 depth p ran stack (stands_front task.code p inner apply stands)
+      let x = value (unary op e) vars cells in
+      let all = cycles-append costs inner apply in
+      expr_runs e ok.1 depth p ran since stack (stands_front task.code p inner apply stands)
       (quiet_step costs task inputs last ended taken dues (Arith op) (depth + 1) (λ now r. refl) (operator_takes costs ranges op) (p + length inner) (p + length inner + 1)
-      (ran + code_cycles costs inner) (value e vars cells ∷ stack) (value (unary op e) vars cells ∷ stack) cells cells (stands_back task.code p inner apply stands).0
+      (ran + code_cycles costs inner) (since + code_cycles costs inner) (value e vars cells ∷ stack) (x ∷ stack) cells cells (stands_back task.code p inner apply stands).0
       (λ spent. ap (λ s. quietly (ready_at (p + length inner + 1) s cells ended taken)) (cond-true _ _ _ ok.0))
-      (ahead_at costs task inputs last ended taken dues _ _ _ _ _ cells (omega (arith, cycles-append costs inner apply)) (omega (arith, length-append inner apply)) ahead))
-  expr_runs (binary op a b) ok depth p ran stack stands ahead =
+      (ahead_at costs task inputs last ended taken dues _ _ _ _ _ _ (x ∷ stack) cells (omega arith) (omega arith) (omega (arith, length-append inner apply)) ahead))
+  expr_runs (binary op a b) ok depth p ran since stack stands ahead =
       let first = expr_code a vars depth in
       let second = expr_code b vars (depth + 1) in
       let apply = at (depth + 2) (Arith op) in
       let behind = stands_back task.code p first (second ++ apply) stands in
-      expr_runs a ok.1 depth p ran stack (stands_front task.code p first (second ++ apply) stands)
-      (expr_runs b ok.2 (depth + 1) (p + length first) (ran + code_cycles costs first) (value a vars cells ∷ stack) (stands_front task.code (p + length first) second apply behind)
+      let x = value (binary op a b) vars cells in
+      let all = cycles-append costs first (second ++ apply) in
+      let rest = cycles-append costs second apply in
+      expr_runs a ok.1 depth p ran since stack (stands_front task.code p first (second ++ apply) stands)
+      (expr_runs b ok.2 (depth + 1) (p + length first) (ran + code_cycles costs first) (since + code_cycles costs first) (value a vars cells ∷ stack) (stands_front task.code (p + length first) second apply behind)
       (quiet_step costs task inputs last ended taken dues (Arith op) (depth + 2) (λ now r. refl) (operator_takes costs ranges op) (p + length first + length second) (p + length first + length second + 1)
-      (ran + code_cycles costs first + code_cycles costs second) (value b vars cells ∷ value a vars cells ∷ stack) (value (binary op a b) vars cells ∷ stack) cells cells (stands_back task.code (p + length first) second apply behind).0
+      (ran + code_cycles costs first + code_cycles costs second) (since + code_cycles costs first + code_cycles costs second)
+      (value b vars cells ∷ value a vars cells ∷ stack) (x ∷ stack) cells cells (stands_back task.code (p + length first) second apply behind).0
       (λ spent. ap (λ s. quietly (ready_at (p + length first + length second + 1) s cells ended taken)) (cond-false _ _ _ ok.0))
-      (ahead_at costs task inputs last ended taken dues _ _ _ _ _ cells (omega (arith, cycles-append costs first (second ++ apply), cycles-append costs second apply)) (omega (arith, length-append first (second ++ apply), length-append second apply)) ahead)))
+      (ahead_at costs task inputs last ended taken dues _ _ _ _ _ _ (x ∷ stack) cells (omega arith) (omega arith) (omega (arith, length-append first (second ++ apply), length-append second apply)) ahead)))

@@ -1,6 +1,17 @@
 -- Every trace of a plain program's image meets the program.
-use Rattle.std.proofs.Common.{◌≡◌, ℕ, suc, ◌+◌, ◌*◌, ◌<◌, ◌≤◌, ℤ, List, [], ◌∷◌, length, refl, ap, ◌∙◌, subst, arith, inl, inr}
+use Rattle.std.proofs.Common.{◌≡◌, ℕ, zero, suc, ◌+◌, ◌*◌, ◌<◌, ◌≤◌, ℤ, List, [], ◌∷◌, ◌++◌, length, length-append, map, Bool, refl, sym, ap, ◌∙◌, subst, arith, inl, inr}
 use Rattle.std.specs.Prelude.{◌⊎◌}
+use Rattle.std.specs.Prelude.{nat_eq, Contains}
+use Rattle.std.specs.Cmp.Lexicographic.{pointwise}
+use Rattle.std.proofs.lemmas.Bool.{cases_lt, true≢false}
+use Rattle.std.proofs.lemmas.Cmp.{nat_list_eq_equiv}
+use Rattle.std.proofs.lemmas.List.{length-map}
+use Rattle.std.proofs.lemmas.List.Sums.{fails_before_first}
+use Rattle.tcel_core.specs.declared.var.Keep.{Keep}
+use Rattle.tcel_core.specs.declared.var.Var.{Var}
+use Rattle.tcel_core.specs.declared.var.VarKind.{VarKind}
+use Rattle.tcel_core.specs.Cells.{words_of}
+use Rattle.tcel_tool.specs.declared.plain_tree.PlainKind.TheVariants as kinds
 use Rattle.tcel_num.specs.declared.op.Op.{Op}
 use Rattle.tcel_num.specs.declared.op.Op.TheVariants as ops
 use Rattle.tcel_num.specs.Arithmetic.{is_unary}
@@ -8,13 +19,12 @@ use Rattle.std.proofs.Common.{false}
 use Rattle.tcel_num.specs.Plan.{Plan}
 use Rattle.tcel_num.specs.Schedule.{served}
 use Rattle.tcel_core.specs.Meets.{Meets}
-use Rattle.tcel_core.specs.Promises.{behavior_of}
 use Rattle.tcel_image.specs.declared.costs.Costs.{Costs}
 use Rattle.tcel_image.specs.Costs.{CostsInRange}
 use Rattle.tcel_image.specs.Machine.{trace}
 use Rattle.tcel_tool.specs.Headline.{CompiledProgramsMeetTheirSource}
-use Rattle.tcel_tool.specs.Layout.{image_of, image_task}
-use Rattle.tcel_tool.specs.PlainTree.{IsPlain, StmtIsPlain, ExprIsPlain, operand_of, expr_of, act_of, block_from, task_of, set_of}
+use Rattle.tcel_tool.specs.Layout.{image_of}
+use Rattle.tcel_tool.specs.PlainTree.{IsPlain, StmtIsPlain, ExprIsPlain, OperandIsPlain, names_of, variable_names, index_of, var_of, vars_of, operand_of, expr_of, act_of, block_from, task_of, set_of}
 use Rattle.tcel_tool.specs.WholePlan.{IsWholePlan}
 use Rattle.tcel_tool.specs.declared.plain_tree.PlainTree.{PlainTree}
 use Rattle.tcel_tool.specs.declared.plain_tree.PlainDecl.{PlainDecl}
@@ -25,35 +35,80 @@ use Rattle.tcel_tool.specs.declared.plain_tree.PlainExpr.TheVariants as exprs
 use Rattle.tcel_tool.specs.declared.plain_tree.Operand.{Operand}
 use Rattle.tcel_tool.specs.declared.plain_tree.Operand.TheVariants as operands
 use Rattle.std.specs.List.{AllByRecursion}
-use Rattle.tcel_tool.proofs.BodyRuns.{ActIsStraight, IsStraight}
-use Rattle.tcel_tool.proofs.ExprRuns.{HaveOperands}
+use Rattle.tcel_tool.proofs.Bodies.{ActFits, Fits, IsUntimed}
+use Rattle.tcel_tool.proofs.Scope.{IsScalar, IsSound}
 use Rattle.tcel_tool.proofs.ServedAlone.{served_whole}
-use Rattle.tcel_tool.proofs.SetRuns.{Site}
-use Rattle.tcel_tool.proofs.SetMeets.{shows}
-use Rattle.tcel_tool.proofs.WholeFrames.{whole_frames, whole_first}
+use Rattle.tcel_tool.proofs.WholeSets.{Serves, set_meets}
 
--- ---- plain programs are straight
+-- ---- plain programs fit
 
-operand_fits : (decls : List PlainDecl) (a : Operand) → HaveOperands (operand_of decls a)
-operand_fits decls (operands.Number n) = tt
-operand_fits decls (operands.Var name) = tt
+-- a declared name is one of the list
+index_within : (name : List ℕ) (names : List (List ℕ)) → Contains names name → index_of name names < length names
+index_within name names has =
+    let p : List ℕ → Bool = pointwise nat_eq name in
+    elim (cases_lt has.0 (index_of name names)) [
+      | inl before ↦
+          let here : p name ≡ false = ap p (sym has.2) ∙ fails_before_first p names has.0 name before in
+          absurd (true≢false (sym (nat_list_eq_equiv.refl name) ∙ here))
+      | inr there ↦ let within = has.1 in omega arith
+    ]
+
+-- scalars
+abbrev AreScalars : List Var → Type 0
+AreScalars [] = Unit {0}
+AreScalars (v ∷ vs) = (v.kind ≡ VarKind.Int) × AreScalars vs
+
+scalars-append : (a b : List Var) → AreScalars a → AreScalars b → AreScalars (a ++ b)
+scalars-append [] b h g = g
+scalars-append (v ∷ a) b h g = (h.0, scalars-append a b h.1 g)
+
+scalars-of : (keep : Keep) (names : List (List ℕ)) → AreScalars (map (var_of keep) names)
+scalars-of keep [] = tt
+scalars-of keep (name ∷ names) = (refl, scalars-of keep names)
+
+scalar_within : (vars : List Var) (v : ℕ) → AreScalars vars → v < length vars → IsScalar vars v
+scalar_within [] v are h = absurd (omega arith)
+scalar_within (x ∷ vars) zero are h = let one : words_of x.kind ≡ 1 = ap words_of are.0 in omega arith
+scalar_within (x ∷ vars) (suc v) are h = let rest = scalar_within vars v are.1 (omega arith) in omega arith
+
+declared_within : (decls : List PlainDecl) (name : List ℕ) → Contains (variable_names decls) name → IsScalar (vars_of decls) (index_of name (variable_names decls))
+declared_within decls name has =
+    let states = names_of kinds.State decls in
+    let locals = names_of kinds.Local decls in
+    let many = length-append states locals in
+    let vars = length-append (map (var_of Keep.State) states) (map (var_of Keep.Local) locals) in
+    let within = index_within name (variable_names decls) has in
+    scalar_within (vars_of decls) (index_of name (variable_names decls))
+    (scalars-append (map (var_of Keep.State) states) (map (var_of Keep.Local) locals) (scalars-of Keep.State states) (scalars-of Keep.Local locals))
+    (omega (arith, length-map states (var_of Keep.State), length-map locals (var_of Keep.Local)))
+
+operand_sound : (decls : List PlainDecl) (a : Operand) → OperandIsPlain decls a → IsSound (vars_of decls) (operand_of decls a)
+operand_sound decls (operands.Number n) plain = record { operands = tt; scope = tt }
+operand_sound decls (operands.Var name) plain = record { operands = tt; scope = declared_within decls name plain }
 
 two_operands : (op : Op) → (op ≡ ops.Add) ⊎ (op ≡ ops.Sub) → is_unary op ≡ false
 two_operands op (inl is) = ap is_unary is
 two_operands op (inr is) = ap is_unary is
 
-expr_fits : (decls : List PlainDecl) (e : PlainExpr) → ExprIsPlain decls e → HaveOperands (expr_of decls e)
-expr_fits decls (exprs.One a) plain = operand_fits decls a
-expr_fits decls (exprs.Two op a b) plain = (two_operands op plain.0, operand_fits decls a, operand_fits decls b)
+expr_sound : (decls : List PlainDecl) (e : PlainExpr) → ExprIsPlain decls e → IsSound (vars_of decls) (expr_of decls e)
+expr_sound decls (exprs.One a) plain = operand_sound decls a plain
+expr_sound decls (exprs.Two op a b) plain =
+    let one = operand_sound decls a plain.1 in
+    let two = operand_sound decls b plain.2 in
+    record { operands = (two_operands op plain.0, one.operands, two.operands); scope = (one.scope, two.scope) }
 
-act_fits : (decls : List PlainDecl) (s : PlainStmt) → StmtIsPlain decls s → ActIsStraight (act_of decls s)
-act_fits decls (stmts.Assign name e) plain = expr_fits decls e plain.1
-act_fits decls (stmts.Receive name port) plain = tt
-act_fits decls (stmts.Send e port) plain = expr_fits decls e plain.0
+act_fits : (decls : List PlainDecl) (s : PlainStmt) → StmtIsPlain decls s → ActFits (act_of decls s) (vars_of decls)
+act_fits decls (stmts.Assign name e) plain = (declared_within decls name plain.0, expr_sound decls e plain.1)
+act_fits decls (stmts.Receive name port) plain = declared_within decls name plain.0
+act_fits decls (stmts.Send e port) plain = expr_sound decls e plain.0
 
-pub block_fits : (id : ℕ) (decls : List PlainDecl) (body : List PlainStmt) → AllByRecursion (StmtIsPlain decls) body → IsStraight (block_from id decls body)
+block_fits : (id : ℕ) (decls : List PlainDecl) (body : List PlainStmt) → AllByRecursion (StmtIsPlain decls) body → Fits (block_from id decls body) (vars_of decls)
 block_fits id decls [] plain = tt
 block_fits id decls (s ∷ ss) plain = (act_fits decls s plain.0, block_fits (id + 1) decls ss plain.1)
+
+block_untimed : (id : ℕ) (decls : List PlainDecl) (body : List PlainStmt) → IsUntimed (block_from id decls body)
+block_untimed id decls [] = tt
+block_untimed id decls (s ∷ ss) = (tt, block_untimed (id + 1) decls ss)
 
 -- ---- the program and its image
 
@@ -73,21 +128,18 @@ module _ (tree : PlainTree) (costs : Costs) (plan : Plan) (plain : IsPlain tree)
       let h = subst (λ n. suc f * plan.total ≤ service n) there (served_whole plan positive fits (suc f)) in
       omega arith
 
-  site : Site costs (plan ∷ []) (streams ∷ [])
-  site = record {
-    number = 0;
-    task = image_task (task_of tree);
-    plan = plan;
-    behavior = behavior_of (task_of tree) streams;
-    period = whole.period;
+  serves : Serves costs ranges (plan ∷ []) (streams ∷ []) 0 (task_of tree) plan
+  serves = record {
+    fits = block_fits 0 tree.decls tree.body plain.statements;
+    untimed = block_untimed 0 tree.decls tree.body;
     positive = let some = plain.period.0 in omega arith;
-    frames = whole_frames costs ranges (task_of tree) (block_fits 0 tree.decls tree.body plain.statements) plan whole service in_time streams long;
-    first = whole_first costs ranges (task_of tree) (block_fits 0 tree.decls tree.body plain.statements) plan whole service in_time streams long;
+    whole = whole;
+    in_time = in_time;
+    long = long;
   }
 
   program_meets : (ticks : ℕ) → Meets (set_of tree) (plan ∷ []) (streams ∷ []) ticks (trace (image_of (set_of tree) costs) (streams ∷ []) ticks)
-  unfolding site
-  program_meets ticks = shows costs (plan ∷ []) (streams ∷ []) (site ∷ []) (refl, tt) refl ticks
+  program_meets ticks = set_meets costs ranges (plan ∷ []) (streams ∷ []) (set_of tree) (serves, tt) ticks
 
 pub plain_programs_meet : CompiledProgramsMeetTheirSource
 plain_programs_meet = λ tree costs plan plain ranges whole fits streams ticks long. program_meets tree costs plan plain ranges whole fits streams long ticks

@@ -1,5 +1,5 @@
 -- How far a task is in a run: the entries that it has made, and what is ahead of it. Ticks of its own and of others keep this.
-use Rattle.std.proofs.Common.{◌≡◌, ℕ, suc, ◌+◌, ◌*◌, ◌<◌, ◌≤◌, ℤ, List, [], ◌∷◌, ◌++◌, length, map, refl, sym, ap, ◌∙◌, subst, arith, append_assoc, append-nil, Option, Some, None, inl, inr}
+use Rattle.std.proofs.Common.{◌≡◌, ℕ, suc, ◌+◌, ◌*◌, ◌<◌, ◌≤◌, ◌⊎◌, ℤ, List, [], ◌∷◌, ◌++◌, length, map, refl, sym, ap, ◌∙◌, subst, arith, append_assoc, append-nil, Option, Some, None, inl, inr}
 use Rattle.std.specs.Prelude.{slice_get, option_to_list, IfSome}
 use Rattle.std.specs.List.{AllZip}
 use Rattle.std.proofs.lemmas.Bool.{cases_lt}
@@ -10,13 +10,12 @@ use Rattle.tcel_core.specs.Promises.{Behavior, Promise, frame_promises, promises
 use Rattle.tcel_image.specs.declared.costs.Costs.{Costs}
 use Rattle.tcel_image.specs.declared.image.ImageTask.{ImageTask}
 use Rattle.tcel_image.specs.Machine.{Running, Outcome, cycle, entry_of}
-use Rattle.tcel_tool.proofs.Ahead.{Due, Ahead, silent, shows, ends, due_later, MayRun}
+use Rattle.tcel_tool.proofs.Ahead.{Due, Ahead, silent, shows, ends, ahead_later, due_later, one_ahead}
 
--- an entry of frame f may come as soon as the frame is released, and is due by a count that the demand schedule reaches in time
+-- an entry of frame f is due by a count of its frame's cycles, which the demand schedule reaches in time
 pub record IsDue (total period : ℕ) (service : ℕ → ℕ) (f : ℕ) (due : Due) : Type 0 where
   pub of_frame : due.promise.frame ≡ f
   pub within : due.by ≤ total
-  pub free : due.promise.earliest ≤ f * period
   pub reached : (latest : ℕ) → due.promise.latest ≡ Some latest → f * total + due.by ≤ service latest
 
 abbrev pub promise_of : Due → Promise
@@ -27,16 +26,9 @@ pub record Frames (costs : Costs) (task : ImageTask) (inputs : List (List ℤ)) 
   pub start : ℕ → Running
   pub dues : ℕ → List Due
   pub frame : (f : ℕ) → (start f).ended ≡ f
-  pub ahead : (f : ℕ) → Ahead costs task inputs (start (suc f)) 0 (start f) (dues f)
+  pub ahead : (f : ℕ) → Ahead costs task inputs (start (suc f)) 0 (f * task.period) (start f) (dues f)
   pub made : (f : ℕ) → map promise_of (dues f) ≡ frame_promises b f
   pub each : (f k : ℕ) (due : Due) → slice_get (dues f) k ≡ Some due → IsDue total task.period service f due
-
--- there is always an entry to come
-pub one_ahead : {costs : Costs} {task : ImageTask} {inputs : List (List ℤ)} {last : Running} {ran : ℕ} {r : Running} {dues : List Due} →
-    Ahead costs task inputs last ran r dues → (due : Due) × (slice_get dues 0 ≡ Some due)
-one_ahead {task = task} {ran = ran} {r = r} (silent to step same more) = one_ahead (more (r.ended * task.period + ran) (omega arith))
-one_ahead (shows {due = due} to step same h more) = (due, refl)
-one_ahead (ends {due = due} step h) = (due, refl)
 
 slice_get-behind : {A : Type 0} (a b : List A) (k : ℕ) → slice_get (a ++ b) (length a + k) ≡ slice_get b k
 slice_get-behind [] b k = let e : 0 + k ≡ k = omega arith in ap (slice_get b) e
@@ -54,14 +46,16 @@ module _ (costs : Costs) (task : ImageTask) (inputs : List (List ℤ)) (b : Beha
   pub record Progress (now count : ℕ) (r : Running) (past : List Entry) : Type 0 where
     pub frame : ℕ
     pub ran : ℕ
+    -- its next tick comes at this time or later
+    pub since : ℕ
     pub done : List Due
     pub left : List Due
     pub at : r.ended ≡ frame
     pub split : frames.dues frame ≡ done ++ left
-    pub ahead : Ahead costs task inputs (frames.start (suc frame)) ran r left
+    pub ahead : Ahead costs task inputs (frames.start (suc frame)) ran since r left
     pub told_so_far : map told past ≡ map promised (promises b frame ++ map promise_of done)
     pub in_time : AllZip IsInTime past (promises b frame ++ map promise_of done)
-    pub since : 0 < ran → frame * task.period + ran ≤ now
+    pub may_run : (since ≤ now) ⊎ (since ≤ frame * task.period)
     pub dominates : count ≤ frame * total + ran
 
   -- an entry that is still to come
@@ -91,6 +85,7 @@ module _ (costs : Costs) (task : ImageTask) (inputs : List (List ℤ)) (b : Beha
   begins = record {
     frame = 0;
     ran = 0;
+    since = 0 * task.period;
     done = [];
     left = frames.dues 0;
     at = frames.frame 0;
@@ -98,7 +93,7 @@ module _ (costs : Costs) (task : ImageTask) (inputs : List (List ℤ)) (b : Beha
     ahead = frames.ahead 0;
     told_so_far = refl;
     in_time = tt;
-    since = λ h. absurd (omega arith);
+    may_run = inl (omega arith);
     dominates = omega arith;
   }
 
@@ -107,6 +102,7 @@ module _ (costs : Costs) (task : ImageTask) (inputs : List (List ℤ)) (b : Beha
   waits now count count' r past p h = record {
     frame = p.frame;
     ran = p.ran;
+    since = p.since;
     done = p.done;
     left = p.left;
     at = p.at;
@@ -114,7 +110,7 @@ module _ (costs : Costs) (task : ImageTask) (inputs : List (List ℤ)) (b : Beha
     ahead = p.ahead;
     told_so_far = p.told_so_far;
     in_time = p.in_time;
-    since = λ some. let g = p.since some in omega arith;
+    may_run = elim p.may_run [ inl g ↦ inl (omega arith) | inr g ↦ inr g ];
     dominates = h;
   }
 
@@ -130,11 +126,12 @@ module _ (costs : Costs) (task : ImageTask) (inputs : List (List ℤ)) (b : Beha
         ]
 
     -- a tick in which it goes on silently
-    silently : (p : Progress now count r past) (to : Running) → to.ended ≡ r.ended → p.frame * task.period + p.ran ≤ now →
-        Ahead costs task inputs (frames.start (suc p.frame)) (suc p.ran) to p.left → Progress (now + 1) count' to past
-    silently p to same may ahead = record {
+    silently : (p : Progress now count r past) (to : Running) → to.ended ≡ r.ended →
+        Ahead costs task inputs (frames.start (suc p.frame)) (suc p.ran) (suc now) to p.left → Progress (now + 1) count' to past
+    silently p to same ahead = record {
       frame = p.frame;
       ran = suc p.ran;
+      since = suc now;
       done = p.done;
       left = p.left;
       at = same ∙ p.at;
@@ -142,7 +139,7 @@ module _ (costs : Costs) (task : ImageTask) (inputs : List (List ℤ)) (b : Beha
       ahead = ahead;
       told_so_far = p.told_so_far;
       in_time = p.in_time;
-      since = λ some. omega arith;
+      may_run = inl (omega arith);
       dominates = let g = p.dominates in omega arith;
     }
 
@@ -158,12 +155,11 @@ module _ (costs : Costs) (task : ImageTask) (inputs : List (List ℤ)) (b : Beha
         ∙ ap (λ f. map promised (promises b p.frame ++ map promise_of p.done) ++ (f, due.promise.what) ∷ []) (p.at ∙ sym of_frame)
         ∙ sym (map_push promised (promises b p.frame ++ map promise_of p.done) due.promise)
 
-    in_time_now : (p : Progress now count r past) (due : Due) → IsDue total task.period service p.frame due → p.frame * task.period ≤ now → p.ran < due.by →
+    in_time_now : (p : Progress now count r past) (due : Due) → IsDue total task.period service p.frame due → due.promise.earliest ≤ now + 1 → p.frame * task.period ≤ now → p.ran < due.by →
         AllZip IsInTime (past ++ made_now due ∷ []) ((promises b p.frame ++ map promise_of p.done) ++ due.promise ∷ [])
-    in_time_now p due d ready soon =
-        let free = d.free in
+    in_time_now p due d early ready soon =
         zip_push IsInTime past (promises b p.frame ++ map promise_of p.done) (made_now due) due.promise p.in_time
-        (record { not_early = omega arith; not_late = entry_in_time p.frame p.ran due d ready p.dominates soon due.promise.latest refl })
+        (record { not_early = early; not_late = entry_in_time p.frame p.ran due d ready p.dominates soon due.promise.latest refl })
 
     -- the first entry to come, as one of its frame
     head_due : (p : Progress now count r past) (due : Due) (others : List Due) → p.left ≡ due ∷ others → IsDue total task.period service p.frame due
@@ -172,30 +168,30 @@ module _ (costs : Costs) (task : ImageTask) (inputs : List (List ℤ)) (b : Beha
         (ap (λ l. slice_get l (length p.done + 0)) p.split ∙ slice_get-behind p.done p.left 0 ∙ ap (λ l. slice_get l 0) e)
 
     -- a tick in which it makes an entry
-    openly : (p : Progress now count r past) (due : Due) (others : List Due) (to : Running) → p.left ≡ due ∷ others → to.ended ≡ r.ended → p.frame * task.period ≤ now →
-        p.frame * task.period + p.ran ≤ now → p.ran < due.by →
-        Ahead costs task inputs (frames.start (suc p.frame)) (suc p.ran) to others → Progress (now + 1) count' to (past ++ made_now due ∷ [])
-    openly p due others to e same ready may soon ahead =
+    openly : (p : Progress now count r past) (due : Due) (others : List Due) (to : Running) → p.left ≡ due ∷ others → to.ended ≡ r.ended → due.promise.earliest ≤ now + 1 → p.frame * task.period ≤ now →
+        p.ran < due.by → Ahead costs task inputs (frames.start (suc p.frame)) (suc p.ran) (suc now) to others → Progress (now + 1) count' to (past ++ made_now due ∷ [])
+    openly p due others to e same early ready soon ahead =
         let d = head_due p due others e in
         let longer = append_assoc (promises b p.frame) (map promise_of p.done) (due.promise ∷ []) ∙ ap (λ l. promises b p.frame ++ l) (sym (map_push promise_of p.done due)) in
         record {
           frame = p.frame;
           ran = suc p.ran;
+          since = suc now;
           done = p.done ++ due ∷ [];
           left = others;
           at = same ∙ p.at;
           split = p.split ∙ ap (λ l. p.done ++ l) e ∙ sym (append_assoc p.done (due ∷ []) others);
           ahead = ahead;
           told_so_far = told_now p due d.of_frame ∙ ap (map promised) longer;
-          in_time = subst (AllZip IsInTime (past ++ made_now due ∷ [])) longer (in_time_now p due d ready soon);
-          since = λ some. omega arith;
+          in_time = subst (AllZip IsInTime (past ++ made_now due ∷ [])) longer (in_time_now p due d early ready soon);
+          may_run = inl (omega arith);
           dominates = let g = p.dominates in omega arith;
         }
 
     -- a tick in which it ends its frame
-    lastly : (p : Progress now count r past) (due : Due) → p.left ≡ due ∷ [] → p.frame * task.period ≤ now → p.ran < due.by →
+    lastly : (p : Progress now count r past) (due : Due) → p.left ≡ due ∷ [] → due.promise.earliest ≤ now + 1 → p.frame * task.period ≤ now → p.ran < due.by →
         Progress (now + 1) count' (frames.start (suc p.frame)) (past ++ made_now due ∷ [])
-    lastly p due e ready soon =
+    lastly p due e early ready soon =
         let d = head_due p due [] e in
         let all : frames.dues p.frame ≡ p.done ++ due ∷ [] = p.split ∙ ap (λ l. p.done ++ l) e in
         let longer =
@@ -205,14 +201,15 @@ module _ (costs : Costs) (task : ImageTask) (inputs : List (List ℤ)) (b : Beha
         record {
           frame = suc p.frame;
           ran = 0;
+          since = suc p.frame * task.period;
           done = [];
           left = frames.dues (suc p.frame);
           at = frames.frame (suc p.frame);
           split = refl;
           ahead = frames.ahead (suc p.frame);
           told_so_far = told_now p due d.of_frame ∙ ap (map promised) longer;
-          in_time = subst (AllZip IsInTime (past ++ made_now due ∷ [])) longer (in_time_now p due d ready soon);
-          since = λ some. absurd (omega arith);
+          in_time = subst (AllZip IsInTime (past ++ made_now due ∷ [])) longer (in_time_now p due d early ready soon);
+          may_run = inr (omega arith);
           dominates = let g = p.dominates in let w = d.within in omega arith;
         }
 
@@ -220,24 +217,24 @@ module _ (costs : Costs) (task : ImageTask) (inputs : List (List ℤ)) (b : Beha
     After o = Progress (now + 1) count' o.task (past ++ option_to_list (entry_of now number r o.shown))
 
     -- a tick of its own
-    own_tick : (p : Progress now count r past) (left : List Due) → p.left ≡ left → p.frame * task.period ≤ now → p.frame * task.period + p.ran ≤ now →
-        (ran : ℕ) → p.ran ≡ ran → MayRun task.period r ran now → Ahead costs task inputs (frames.start (suc p.frame)) ran r left → After (cycle costs task inputs now r)
-    own_tick p left e ready may ran same_ran may_run (silent to step same more) =
-        subst After (sym (step now may_run))
+    own_tick : (p : Progress now count r past) (left : List Due) → p.left ≡ left → p.frame * task.period ≤ now → (ran since : ℕ) → p.ran ≡ ran → since ≤ now →
+        Ahead costs task inputs (frames.start (suc p.frame)) ran since r left → After (cycle costs task inputs now r)
+    own_tick p left e ready ran since same_ran may (silent to step same more) =
+        subst After (sym (step now may))
         (subst (Progress (now + 1) count' (to now)) (sym (append-nil past))
-        (silently p (to now) (same now) may
-        (subst (λ n. Ahead costs task inputs (frames.start (suc p.frame)) (suc n) (to now) p.left) (sym same_ran)
-        (subst (Ahead costs task inputs (frames.start (suc p.frame)) (suc ran) (to now)) (sym e) (more now may_run)))))
-    own_tick p left e ready may ran same_ran may_run (shows {due = due} {dues = others} to step same soon more) =
+        (silently p (to now) (same now)
+        (subst (λ n. Ahead costs task inputs (frames.start (suc p.frame)) (suc n) (suc now) (to now) p.left) (sym same_ran)
+        (subst (Ahead costs task inputs (frames.start (suc p.frame)) (suc ran) (suc now) (to now)) (sym e) (more now may)))))
+    own_tick p left e ready ran since same_ran may (shows {due = due} {dues = others} to step same early soon more) =
         subst After (sym (step now))
-        (openly p due others to e same ready may (omega arith)
-        (subst (λ n. Ahead costs task inputs (frames.start (suc p.frame)) (suc n) to others) (sym same_ran) more))
-    own_tick p left e ready may ran same_ran may_run (ends {due = due} step soon) =
-        subst After (sym (step now)) (lastly p due e ready (omega arith))
+        (openly p due others to e same (omega arith) ready (omega arith)
+        (subst (λ n. Ahead costs task inputs (frames.start (suc p.frame)) (suc n) (suc now) to others) (sym same_ran) (ahead_later more (suc now) (omega arith))))
+    own_tick p left e ready ran since same_ran may (ends {due = due} step early soon) =
+        subst After (sym (step now)) (lastly p due e (omega arith) ready (omega arith))
 
     -- a tick in which it runs
     pub runs : (p : Progress now count r past) → r.ended * task.period ≤ now → After (cycle costs task inputs now r)
     runs p ready =
         let ready' : p.frame * task.period ≤ now = subst (λ f. f * task.period ≤ now) p.at ready in
-        let may : p.frame * task.period + p.ran ≤ now = elim (cases_lt 0 p.ran) [ inl h ↦ p.since h | inr h ↦ omega arith ] in
-        own_tick p p.left refl ready' may p.ran refl (subst (λ f. f * task.period + p.ran ≤ now) (sym p.at) may) p.ahead
+        let may : p.since ≤ now = elim p.may_run [ inl h ↦ h | inr h ↦ omega arith ] in
+        own_tick p p.left refl ready' p.ran p.since refl may p.ahead

@@ -1,12 +1,9 @@
 -- Every run of a set's tasks shows what they are to do.
-use Rattle.std.proofs.Common.{◌≡◌, ℕ, zero, suc, ◌+◌, ◌*◌, ◌<◌, ◌≤◌, List, [], ◌∷◌, ◌++◌, length, map, refl, sym, ap, ◌∙◌, subst, arith, append_assoc, append-nil, Option, Some, None}
+use Rattle.std.proofs.Common.{◌≡◌, ℕ, zero, suc, ◌+◌, ◌*◌, ◌<◌, ◌≤◌, List, [], ◌∷◌, ◌++◌, length, map, refl, sym, ap, ◌∙◌, subst, arith, append_assoc, append-nil, Some}
 use Rattle.std.specs.Prelude.{slice_get, slice_index, slice_index_or, option_to_list, All}
-use Rattle.std.specs.List.Sorted.{IsStrictlyIncreasing}
-use Rattle.std.proofs.lemmas.Bool.{cond_both}
 use Rattle.std.proofs.lemmas.List.{length-map}
-use Rattle.std.proofs.lemmas.List.Elements.{All-nil, All-cons, All-append}
 use Rattle.std.proofs.lemmas.Option.{same_Some, none-some}
-use Rattle.tcel_num.specs.Entry.{Entry, What}
+use Rattle.tcel_num.specs.Entry.{Entry}
 use Rattle.tcel_num.specs.Plan.{Plan}
 use Rattle.tcel_num.specs.Schedule.{serve_highest, served_counts, served}
 use Rattle.tcel_num.proofs.Served.{served_mono, length-served}
@@ -14,86 +11,11 @@ use Rattle.tcel_core.specs.Meets.{Shows, Keeps, entries_of}
 use Rattle.tcel_core.specs.Promises.{Behavior, promises}
 use Rattle.tcel_image.specs.declared.costs.Costs.{Costs}
 use Rattle.tcel_image.specs.declared.image.Image.{Image}
-use Rattle.tcel_image.specs.declared.image.ImageTask.{ImageTask}
-use Rattle.tcel_image.specs.Machine.{Streams, Running, Machine, is_ready, cycle, entry_of, tick, tick_from, runs, after, entries, start, start_task, trace}
+use Rattle.tcel_image.specs.Machine.{Streams, Running, tick, entries, start_task, trace}
 use Rattle.tcel_tool.proofs.Progress.{Progress, begins}
 use Rattle.tcel_tool.proofs.SetRuns.{Site, Numbered, EachProgress, AreServed, ProgressAt, task_of, plan_of, behavior_of, served_tick}
+use Rattle.tcel_tool.proofs.Traces.{trace_rises, trace_known}
 use Rattle.tcel_tool.proofs.TaskMeets.{keeps, ended}
-
--- ---- times and tasks of entries, in any run
-
--- what every entry of a tick is: of one of the tasks, at the tick's end
-record IsOfTick (now n count : ℕ) (e : Entry) : Type 0 where
-  time : e.time ≡ now + 1
-  task : e.task < n + count
-
-entry_of_tick : (now n count : ℕ) (r : Running) (shown : Option What) → 0 < count → (e : Entry) → entry_of now n r shown ≡ Some e → IsOfTick now n count e
-entry_of_tick now n count r None some e h = absurd (none-some e h)
-entry_of_tick now n count r (Some what) some e h =
-    let made : Entry = record { time = now + 1; task = n; frame = r.ended; what = what } in
-    let is : IsOfTick now n count made = record { time = refl; task = omega arith } in
-    subst (IsOfTick now n count) (same_Some made e h) is
-
-tick_entry : (costs : Costs) (now : ℕ) (tasks : List ImageTask) (streams : Streams) (n : ℕ) (rs : List Running) → (e : Entry) → (tick_from costs now tasks streams n rs).entry ≡ Some e → IsOfTick now n (length tasks) e
-tick_entry costs now [] streams n rs = λ e h. absurd (none-some e h)
-tick_entry costs now (task ∷ tasks) streams n [] = λ e h. absurd (none-some e h)
-tick_entry costs now (task ∷ tasks) streams n (r ∷ rs) =
-    let o = cycle costs task (slice_index_or streams n []) now r in
-    let others = tick_from costs now tasks streams (n + 1) rs in
-    cond_both (is_ready task now r) (runs now n r o rs) (after r others) (λ t. (e : Entry) → t.entry ≡ Some e → IsOfTick now n (suc (length tasks)) e)
-    (λ _ e h. entry_of_tick now n (suc (length tasks)) r o.shown (omega arith) e h)
-    (λ _ e h. let g = tick_entry costs now tasks streams (n + 1) rs e h in record { time = g.time; task = let k = g.task in omega arith })
-
--- times rise from one that was
-abbrev Rise : ℕ → List Entry → Type 0
-Rise now [] = Unit {0}
-Rise now (e ∷ es) = (now < e.time) × Rise e.time es
-
-rise_from : (now later : ℕ) (es : List Entry) → now ≤ later → Rise later es → Rise now es
-rise_from now later [] h rise = tt
-rise_from now later (e ∷ es) h rise = (let g = rise.0 in omega arith, rise.1)
-
-rise_one : (now : ℕ) (entry : Option Entry) (es : List Entry) → ((e : Entry) → entry ≡ Some e → e.time ≡ now + 1) → Rise (now + 1) es → Rise now (option_to_list entry ++ es)
-rise_one now None es of rise = rise_from now (now + 1) es (omega arith) rise
-rise_one now (Some e) es of rise = let at = of e refl in (omega arith, subst (λ n. Rise n es) (sym at) rise)
-
-increasing : (now : ℕ) (es : List Entry) → Rise now es → IsStrictlyIncreasing (map (λ (e : Entry). e.time) es)
-increasing now [] rise k h = absurd (omega arith)
-increasing now (e ∷ []) rise k h = absurd (omega arith)
-increasing now (e ∷ (f ∷ es)) rise zero h = rise.1.0
-increasing now (e ∷ (f ∷ es)) rise (suc k) h =
-    let times = map (λ (x : Entry). x.time) (f ∷ es) in
-    let on : suc (k + 1) ≡ suc k + 1 = omega arith in
-    subst (λ n. slice_index times k < slice_index (e.time ∷ times) n) on (increasing e.time (f ∷ es) rise.1 k (omega arith))
-
-entries_rise : (image : Image) (streams : Streams) (ticks : ℕ) (machine : Machine) → Rise machine.now (entries image streams ticks machine)
-entries_rise image streams zero machine = tt
-entries_rise image streams (suc ticks) machine =
-    let ticked = tick image streams machine in
-    rise_one machine.now ticked.entry (entries image streams ticks (record { now = machine.now + 1; tasks = ticked.tasks }))
-    (λ e h. (tick_entry image.costs machine.now image.tasks streams 0 machine.tasks e h).time)
-    (entries_rise image streams ticks (record { now = machine.now + 1; tasks = ticked.tasks }))
-
-known_one : (count : ℕ) (entry : Option Entry) → ((e : Entry) → entry ≡ Some e → e.task < count) → All (λ (e : Entry). e.task < count) (option_to_list entry)
-known_one count None h = All-nil (λ (e : Entry). e.task < count)
-known_one count (Some e) h = All-cons (λ (e : Entry). e.task < count) e [] (h e refl) (All-nil (λ (e : Entry). e.task < count))
-
-entries_known : (image : Image) (streams : Streams) (ticks : ℕ) (machine : Machine) → All (λ (e : Entry). e.task < length image.tasks) (entries image streams ticks machine)
-entries_known image streams zero machine = All-nil (λ (e : Entry). e.task < length image.tasks)
-entries_known image streams (suc ticks) machine =
-    let ticked = tick image streams machine in
-    let on : Machine = record { now = machine.now + 1; tasks = ticked.tasks } in
-    All-append (λ (e : Entry). e.task < length image.tasks) (option_to_list ticked.entry) (entries image streams ticks on)
-    (known_one (length image.tasks) ticked.entry (λ e h. let g = (tick_entry image.costs machine.now image.tasks streams 0 machine.tasks e h).task in omega arith))
-    (entries_known image streams ticks on)
-
--- times rise strictly along a trace
-pub trace_rises : (image : Image) (streams : Streams) (ticks : ℕ) → IsStrictlyIncreasing (map (λ (e : Entry). e.time) (trace image streams ticks))
-trace_rises image streams ticks = increasing 0 (trace image streams ticks) (entries_rise image streams ticks (start image))
-
--- each entry is of one of the image's tasks
-pub trace_known : (image : Image) (streams : Streams) (ticks : ℕ) → All (λ (e : Entry). e.task < length image.tasks) (trace image streams ticks)
-trace_known image streams ticks = entries_known image streams ticks (start image)
 
 -- ---- a set
 
@@ -160,7 +82,7 @@ module _ (costs : Costs) (plans : List Plan) (streams : Streams) where
     -- each task's progress after so many ticks
     run : (ticks : ℕ) → (rs : List Running) × At ticks rs (trace image streams ticks)
     run ticks =
-        let zeros = ap (map (λ (plan : Plan). 0)) (sym same) in
+        let zeros : map (λ _. 0) (map (plan_of costs plans streams) sites) ≡ served_counts plans 0 = ap (map (λ (plan : Plan). 0)) (sym same) in
         let begun = subst (λ l. EachProgress costs plans streams sites 0 l (map start_task image.tasks) []) zeros (all_begin sites) in
         let e : 0 + ticks ≡ ticks = omega arith in
         let there = run_keeps ticks 0 (map start_task image.tasks) [] begun in

@@ -1,8 +1,8 @@
 -- The frames of a task that is not sliced, on the machine.
-use Rattle.std.proofs.Common.{◌≡◌, ℕ, zero, suc, ◌+◌, ◌-◌, ◌*◌, ◌<◌, ◌≤◌, ℤ, pos, List, [], ◌∷◌, ◌++◌, length, get_or, map, drop, refl, sym, ap, ◌∙◌, subst, arith, Some, zero-le}
+use Rattle.std.proofs.Common.{◌≡◌, ℕ, zero, suc, ◌+◌, ◌-◌, ◌*◌, ◌<◌, ◌≤◌, ℤ, pos, List, [], ◌∷◌, ◌++◌, length, get_or, map, drop, append-nil, refl, sym, ap, ◌∙◌, subst, arith, Some}
 use Rattle.std.specs.Prelude.{slice_get, nat_le, take, replicate}
 use Rattle.std.proofs.Math.ListN.{get_or-map}
-use Rattle.std.proofs.lemmas.List.{length-map, map-append}
+use Rattle.std.proofs.lemmas.List.{length-map, map-append, nil_from_length}
 use Rattle.std.proofs.lemmas.Option.{same_Some, none-some}
 use Rattle.tcel_num.specs.Entry.{end as end_entry}
 use Rattle.tcel_num.specs.Plan.{Plan}
@@ -12,7 +12,7 @@ use Rattle.tcel_core.specs.Language.{Task}
 use Rattle.tcel_core.specs.Meaning.{exec}
 use Rattle.tcel_core.specs.Outcome.{Memory, Occurrence, Outcome}
 use Rattle.tcel_core.specs.Promises.{behavior_of, event_promise, first_promise, end_promise, frame_promises}
-use Rattle.tcel_core.specs.Windows.{event_of, earliest, latest}
+use Rattle.tcel_core.specs.Windows.{event_of, latest}
 use Rattle.tcel_image.specs.declared.costs.Costs.{Costs}
 use Rattle.tcel_image.specs.declared.costs.CostKey.TheVariants as keys
 use Rattle.tcel_image.specs.declared.image.ImageTask.{ImageTask}
@@ -29,13 +29,31 @@ use Rattle.tcel_tool.specs.Layout.{image_task, states_of}
 use Rattle.tcel_tool.specs.Walks.{Walks}
 use Rattle.tcel_tool.specs.WholePlan.{IsWholePlan}
 use Rattle.tcel_tool.proofs.Ahead.{Due, Ahead, IsAt, makes_last, showing, after_cycles}
-use Rattle.tcel_tool.proofs.BodyRuns.{Remain, takes, dues_of, due_of, IsStraight, Runs, show_step, block_runs, block_remains}
+use Rattle.tcel_tool.proofs.Bodies.{Fits, AllSuit, block_words, block_remains, no_loops, ArePlain, AreUpTo}
+use Rattle.tcel_tool.proofs.BodyRuns.{Runs, show_step, block_runs}
+use Rattle.tcel_tool.proofs.Inputs.{Remain, takes}
 use Rattle.tcel_tool.proofs.ExprRuns.{Stands, stands_front, stands_back, stands_all, ready_at}
 use Rattle.tcel_tool.proofs.Progress.{Frames, IsDue, promise_of}
-use Rattle.tcel_tool.proofs.Straight.{no_loops, block_words, ArePlain, block_plain, AreUpTo, block_goes_on, upto_later}
 use Rattle.tcel_tool.proofs.StateWords.{states_first, length-declared_state, states_words, length-start_cells, length-state_of}
 
 -- ---- dues
+
+-- the entry of an event of a frame, due by a count
+abbrev pub due_of : ℕ → ℕ → ℕ → ℕ → Occurrence → Due
+due_of frame release deadline count e = record { by = count; promise = event_promise frame release (event_of deadline e) }
+
+-- the entries of events, each due by its count
+abbrev pub dues_of : ℕ → ℕ → ℕ → List ℕ → List Occurrence → List Due
+dues_of frame release deadline (c ∷ counts) (e ∷ events) = due_of frame release deadline c e ∷ dues_of frame release deadline counts events
+dues_of frame release deadline _ _ = []
+
+dues_suit : (frame release deadline : ℕ) (counts : List ℕ) (events : List Occurrence) → length counts ≡ length events →
+    AllSuit release 0 counts events (dues_of frame release deadline counts events)
+dues_suit frame release deadline [] [] h = tt
+dues_suit frame release deadline [] (e ∷ events) h = absurd (omega arith)
+dues_suit frame release deadline (c ∷ counts) [] h = absurd (omega arith)
+dues_suit frame release deadline (c ∷ counts) (e ∷ events) h =
+    (record { shows = refl; soon = omega arith; early = omega arith }, dues_suit frame release deadline counts events (omega arith))
 
 -- what holds of each due
 abbrev pub EachDue : (Due → Type 0) → List Due → Type 0
@@ -59,7 +77,7 @@ promises-dues frame release deadline (c ∷ counts) [] h = absurd (omega arith)
 promises-dues frame release deadline (c ∷ counts) (e ∷ events) h = ap (λ l. event_promise frame release (event_of deadline e) ∷ l) (promises-dues frame release deadline counts events (omega arith))
 
 -- plain events are due by the end of a walk, which the demand schedule reaches by the deadline
-events_due : (total period deadline f last : ℕ) (service : ℕ → ℕ) → last ≤ total → f * total + last ≤ service (f * period + deadline) →
+pub events_due : (total period deadline f last : ℕ) (service : ℕ → ℕ) → last ≤ total → f * total + last ≤ service (f * period + deadline) →
     (counts : List ℕ) (events : List Occurrence) → AreUpTo last counts → ArePlain events →
     EachDue (IsDue total period service f) (dues_of f (f * period) deadline counts events)
 events_due total period deadline f last service within reached [] events upto plain = tt
@@ -67,12 +85,10 @@ events_due total period deadline f last service within reached (c ∷ counts) []
 events_due total period deadline f last service within reached (c ∷ counts) (e ∷ events) upto plain =
     let none = plain.0 in
     let soon = upto.0 in
-    let nothing : (event_of deadline e).earliest ≡ 0 = ap earliest none in
     let by_deadline : latest deadline e.around ≡ deadline = ap (latest deadline) none in
     let due : IsDue total period service f (due_of f (f * period) deadline c e) = record {
       of_frame = refl;
       within = omega arith;
-      free = omega arith;
       reached =
           λ l is.
           let when : f * period + deadline ≡ l = ap (λ n. f * period + n) (sym by_deadline) ∙ same_Some (f * period + latest deadline e.around) l is in
@@ -82,8 +98,10 @@ events_due total period deadline f last service within reached (c ∷ counts) (e
 
 -- ---- a task that is not sliced
 
-module _ (costs : Costs) (ranges : CostsInRange costs) (t : Task) (straight : IsStraight t.body) (plan : Plan) (whole : IsWholePlan t costs plan) (service : ℕ → ℕ)
-    (in_time : (f : ℕ) → f * plan.total + (whole.end + costs.mark) ≤ service (f * t.period + t.deadline)) (streams : List (List ℤ)) (long : length streams ≡ length t.inputs) where
+module _ (costs : Costs) (ranges : CostsInRange costs) (t : Task) (fits : Fits t.body t.vars) (plan : Plan) (whole : IsWholePlan t costs plan) (service : ℕ → ℕ) (streams : List (List ℤ)) (long : length streams ≡ length t.inputs)
+    (mark_in_time : (f : ℕ) → f * plan.total + (whole.end + costs.mark) ≤ service (f * t.period + t.deadline))
+    (events_in_time : (f end : ℕ) (counts : List ℕ) → Walks t.body t.vars costs 0 end counts →
+    EachDue (IsDue plan.total t.period service f) (dues_of f (f * t.period) t.deadline counts (exec t.body t.vars (start_of t streams f)).events)) where
   abbrev pub task : ImageTask
   task = image_task t
 
@@ -105,13 +123,13 @@ module _ (costs : Costs) (ranges : CostsInRange costs) (t : Task) (straight : Is
     lists = refl;
     each = λ port. ap (λ n. drop n (get_or streams port [])) (sym (get_or-map (λ (name : List ℕ). 0) t.inputs port []));
   }
-  remain (suc f) = block_remains streams t.vars t.body straight (from f) (taken f) (remain f)
+  remain (suc f) = block_remains t.body t.vars fits streams (from f) (taken f) (remain f)
 
   words : (f : ℕ) → length (from f).cells ≡ all_words t.vars
   words zero = length-start_cells t.vars (declared_state t.vars) (length-declared_state t.vars)
   words (suc f) =
       let cells = (does f).memory.cells in
-      length-start_cells t.vars (state_of t.vars cells) (length-state_of t.vars cells (block_words t.body straight t.vars (from f) ∙ words f))
+      length-start_cells t.vars (state_of t.vars cells) (length-state_of t.vars cells (block_words t.body t.vars fits (from f) (words f)))
 
   abbrev start : ℕ → Running
   start f = ready_at 0 [] (from f).cells f (taken f)
@@ -126,10 +144,14 @@ module _ (costs : Costs) (ranges : CostsInRange costs) (t : Task) (straight : Is
   stands = stands_all (body_code ++ last_code) []
 
   -- a frame's body on the machine
-  runs : (f : ℕ) → Runs costs ranges task streams (start (suc f)) t.vars f (f * t.period) t.deadline [] (Walks t.body t.vars costs) body_code (does f) 0 0 (from f).cells (taken f)
+  runs : (f : ℕ) → Runs costs ranges task streams (start (suc f)) t.vars f [] (Walks t.body t.vars costs) body_code (does f) 0 0 0 (from f).cells [] (taken f)
   runs f =
-      block_runs costs ranges task streams (start (suc f)) t.vars f (f * t.period) t.deadline [] t.body straight (from f) 0 0 (all_words t.vars) (taken f) (remain f)
+      block_runs costs ranges task streams (start (suc f)) t.vars f [] t.body fits (from f) 0 0 0 (all_words t.vars) [] (taken f) (words f) (remain f)
       (stands_front task.code 0 body_code last_code stands)
+
+  -- it has no counters
+  left_empty : (f : ℕ) → (does f).memory.cells ++ (runs f).left ≡ (does f).memory.cells
+  left_empty f = ap (λ l. (does f).memory.cells ++ l) (nil_from_length (runs f).left (runs f).as_many) ∙ append-nil (does f).memory.cells
 
   abbrev mark_due : ℕ → Due
   mark_due f = record { by = (runs f).end + costs.mark; promise = first_promise f (f * t.period) t.deadline }
@@ -152,10 +174,10 @@ module _ (costs : Costs) (ranges : CostsInRange costs) (t : Task) (straight : Is
       λ w n e. showing (end_entry (take w cells)) (ready_at 0 [] (take w cells ++ replicate (n - w) (pos 0)) e (taken (suc f))) in
       let next_frame : f + 1 ≡ suc f = omega arith in
       ap (λ w. left w (length cells) (f + 1)) (states_words t.vars)
-      ∙ ap (λ n. left (state_words t.vars) n (f + 1)) (block_words t.body straight t.vars (from f) ∙ words f)
+      ∙ ap (λ n. left (state_words t.vars) n (f + 1)) (block_words t.body t.vars fits (from f) (words f))
       ∙ ap (λ e. left (state_words t.vars) (all_words t.vars) e) next_frame
 
-  ahead : (f : ℕ) → Ahead costs task streams (start (suc f)) 0 (start f) (dues f)
+  ahead : (f : ℕ) → Ahead costs task streams (start (suc f)) 0 (f * t.period) (start f) (dues f)
   ahead f =
       let cells = (does f).memory.cells in
       let p : ℕ = 0 + length body_code in
@@ -165,12 +187,15 @@ module _ (costs : Costs) (ranges : CostsInRange costs) (t : Task) (straight : Is
       let some : 0 < costs.end = (ranges keys.End).0 in
       let n : costs.end ≡ suc more = omega arith in
       let is : IsAt costs task End more r = record { depth = 0; here = behind.1.0; lasts = λ now spent. ap (λ k. nat_le k (spent + 1)) n } in
-      (runs f).ahead (mark_due f ∷ end_due f ∷ [])
-      (λ ran h.
-      show_step costs ranges task streams (start (suc f)) t.vars f (f * t.period) t.deadline [] Mark 0 (λ now r. refl) (ranges keys.Mark).0 p (p + 1) ran [] [] cells cells (taken (suc f)) (taken (suc f))
-      (mark_due f) (end_due f ∷ []) behind.0 (λ spent. refl) (omega arith)
-      (makes_last costs task streams End more r is (start (suc f)) (end_due f) (ran + costs.mark) (frame_ends f (p + 1) more) (omega arith)))
-      0 (omega arith)
+      let no_others = append-nil (from f).cells in
+      subst (λ l. Ahead costs task streams (start (suc f)) 0 (f * t.period) (ready_at 0 [] l f (taken f)) (dues f)) no_others
+      ((runs f).ahead (event_dues f) (mark_due f ∷ end_due f ∷ []) (dues_suit f (f * t.period) t.deadline (runs f).counts (does f).events (runs f).each)
+      (λ ran since h waited low.
+      subst (λ l. Ahead costs task streams (start (suc f)) ran since (ready_at p [] l f (taken (suc f))) (mark_due f ∷ end_due f ∷ [])) (sym (left_empty f))
+      (show_step costs ranges task streams (start (suc f)) t.vars f [] Mark 0 (λ now r. refl) (ranges keys.Mark).0 p (p + 1) ran since [] [] cells cells (taken (suc f)) (taken (suc f))
+      (mark_due f) (end_due f ∷ []) behind.0 (λ spent. refl) (omega arith) (omega arith)
+      (makes_last costs task streams End more r is (start (suc f)) (end_due f) (ran + costs.mark) (since + costs.mark) (frame_ends f (p + 1) more) (omega arith) (omega arith))))
+      0 (f * t.period) (omega arith) (omega arith) (omega arith))
 
   made : (f : ℕ) → map promise_of (dues f) ≡ frame_promises (behavior_of t streams) f
   made f =
@@ -183,19 +208,14 @@ module _ (costs : Costs) (ranges : CostsInRange costs) (t : Task) (straight : Is
       let P : Due → Type 0 = IsDue plan.total t.period service f in
       let longest : (runs f).end ≤ whole.end = whole.longest.greatest (runs f).end ((runs f).counts, (runs f).walk) in
       let total = whole.total in
-      let soon = in_time f in
-      let on = block_goes_on t.body straight t.vars costs 0 (runs f).end (runs f).counts (runs f).walk in
-      let counts = upto_later (runs f).end (whole.end + costs.mark) (runs f).counts (omega arith) on.events_by_end in
+      let soon = mark_in_time f in
       let mark : P (mark_due f) = record {
         of_frame = refl;
         within = omega arith;
-        free = zero-le;
         reached = λ l is. let when = same_Some (f * t.period + t.deadline) l is in subst (λ n. f * plan.total + ((runs f).end + costs.mark) ≤ service n) when (omega arith);
       } in
-      let end : P (end_due f) = record { of_frame = refl; within = omega arith; free = zero-le; reached = λ l is. absurd (none-some l is) } in
-      each-append P (event_dues f) (mark_due f ∷ end_due f ∷ [])
-      (events_due plan.total t.period t.deadline f (whole.end + costs.mark) service (omega arith) soon (runs f).counts (does f).events counts (block_plain t.body straight t.vars (from f)))
-      (mark, (end, tt))
+      let end : P (end_due f) = record { of_frame = refl; within = omega arith; reached = λ l is. absurd (none-some l is) } in
+      each-append P (event_dues f) (mark_due f ∷ end_due f ∷ []) (events_in_time f (runs f).end (runs f).counts (runs f).walk) (mark, (end, tt))
 
   -- its frames on the machine
   pub whole_frames : Frames costs (image_task t) streams (behavior_of t streams) plan.total service
@@ -215,7 +235,7 @@ module _ (costs : Costs) (ranges : CostsInRange costs) (t : Task) (straight : Is
       let states = flat_map (λ (s : ImageState). s.first) (states_of t.vars) in
       let declared = states_first t.vars in
       let many = ap length declared ∙ length-declared_state t.vars in
-      let none = no_loops t.body straight in
+      let none = no_loops t.body t.vars fits in
       let zeros : all_words t.vars - state_words t.vars ≡ all_words t.vars + loops t.body - length states = omega arith in
       ap (λ cells. ready_at 0 [] cells 0 (map (λ _. 0) t.inputs))
       (ap (λ l. l ++ replicate (all_words t.vars - state_words t.vars) (pos 0)) (sym declared) ∙ ap (λ n. states ++ replicate n (pos 0)) zeros)

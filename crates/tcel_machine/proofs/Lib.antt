@@ -1,0 +1,6 @@
+pub mod Shapes
+pub mod Ticks
+pub mod Cycles
+pub mod Ready
+pub mod Running
+pub mod Sound

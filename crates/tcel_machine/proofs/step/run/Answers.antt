@@ -1,0 +1,48 @@
+use Rattle.std.proofs.Common.{◌≡◌, ◌<◌, length, get_or, Some, None, ap, sym, ◌∙◌, arith}
+use Rattle.std.specs.List.{slice_get}
+use Rattle.std.proofs.lemmas.Option.{slice_get-get_or}
+use Rattle.tcel_machine.specs.Task.{running_of}
+use Rattle.tcel_machine.proofs.Ready.{read_at, ready_is, release_of}
+use Rattle.tcel_machine.proofs.Running.{ran}
+use Rattle.tcel_machine.proofs.step.run.Goals as goal
+use Rattle.tcel_machine.proofs.step.run.Goals.{After-index-tasks-number}
+
+task_is : (c : After-index-tasks-number) → slice_get c.args.image.now.tasks c.args.number ≡ Some c.index-image_tasks-number.result
+task_is c =
+    let list = c.as_slice-image_tasks.result.now in
+    let h : c.args.number < length list = omega (arith, ap length c.as_slice-image_tasks.ensures, c.requires.can.running.count, c.requires.within) in
+    read_at list c.args.image.now.tasks c.as_slice-image_tasks.ensures c.args.number c.index-image_tasks-number.result h c.index-image_tasks-number.is
+
+run_was : (c : After-index-tasks-number) → slice_get c.args.tasks.now c.args.number ≡ Some (get_or c.args.tasks.now c.args.number c.index-tasks-number.result)
+run_was c = slice_get-get_or c.args.tasks.now c.args.number c.index-tasks-number.result c.requires.within
+
+pub cycle-requires-clause-range : goal.cycle-requires-clause-range
+cycle-requires-clause-range c = (c.requires.can.sound c.args.number c.index-image_tasks-number.result (task_is c)).0
+
+pub cycle-requires-clause-valid : goal.cycle-requires-clause-valid
+cycle-requires-clause-valid c = (c.requires.can.sound c.args.number c.index-image_tasks-number.result (task_is c)).1
+
+pub cycle-requires-clause-running : goal.cycle-requires-clause-running
+cycle-requires-clause-running c =
+    c.requires.can.running.each c.args.number c.index-image_tasks-number.result (get_or c.args.tasks.now c.args.number c.index-tasks-number.result) (task_is c) (run_was c)
+
+pub cycle-requires-clause-release : goal.cycle-requires-clause-release
+cycle-requires-clause-release c =
+    let run = get_or c.args.tasks.now c.args.number c.index-tasks-number.result in
+    let valid = (c.requires.can.sound c.args.number c.index-image_tasks-number.result (task_is c)).1 in
+    release_of c.index-image_tasks-number.result c.args.now (running_of run) valid.some
+    (sym (ready_is c.args.image.now.tasks c.args.now c.args.tasks.now c.args.number c.index-image_tasks-number.result run (task_is c) (run_was c)) ∙ c.requires.first.0)
+
+pub returns-in-None : goal.returns-in-None
+returns-in-None c =
+    let at = goal.at.returns-in-None c in
+    ran c.args.image.now c.args.script.now c.args.now c.args.tasks.now c.args.number c.index-image_tasks-number.result
+    (get_or c.args.tasks.now c.args.number c.index-tasks-number.result) c.cycle.new.task c.requires.can c.requires.first c.requires.within
+    (task_is at.After-index-tasks-number) (run_was at.After-index-tasks-number) None c.in-None.ensures.running c.in-None.ensures.task c.in-None.ensures.shown
+
+pub returns-in-Some : goal.returns-in-Some
+returns-in-Some c =
+    let at = goal.at.returns-in-Some c in
+    ran c.args.image.now c.args.script.now c.args.now c.args.tasks.now c.args.number c.index-image_tasks-number.result
+    (get_or c.args.tasks.now c.args.number c.index-tasks-number.result) c.cycle.new.task c.requires.can c.requires.first c.requires.within
+    (task_is at.After-index-tasks-number) (run_was at.After-index-tasks-number) (Some c.in-Some.what) c.in-Some.ensures.running c.in-Some.ensures.task c.in-Some.ensures.shown

@@ -1,0 +1,19 @@
+//! The tick machine: it runs a verified image on a script, one tick a call.
+#![tactic(auto)]
+
+mod cells;
+mod cycle;
+mod entry;
+mod execute;
+mod machine;
+mod operator;
+mod stack;
+mod start;
+mod step;
+mod task;
+
+pub use entry::{Entry, What};
+pub use machine::Machine;
+
+#[cfg(test)]
+mod tests;

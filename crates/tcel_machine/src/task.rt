@@ -1,0 +1,201 @@
+ghost use Rattle.std.specs.Prelude.{◌≡◌, ◌+◌, ◌<◌, ◌≤◌, ◌^◌, ◌∷◌, [], pos, length, slice_index, slice_index_or, slice_set, int_lt, if◌then◌else◌};
+ghost use Rattle.tcel_num.specs.Arithmetic.{is_unary, holds};
+ghost use Rattle.tcel_num.specs.Words.{element, with_element, copied};
+ghost use Rattle.tcel_image.specs.Machine.{Running, Outcome, go_on, move_to, show, top, below, applied, counted, end_frame};
+ghost use Rattle.tcel_machine.specs.Task.{running_of, Becomes, Holds, HasCells, state_of};
+
+use crate::cells::{clear, copy, element, set_element};
+use crate::operator::{binary, holds, is_unary, unary};
+use crate::stack::Stack;
+use tcel_num::{Op, add};
+
+/// A task that runs. `spent` counts the cycles of the current instruction, `taken` the values that
+/// each input has given, `words` the cells of the states.
+#[derive(Debug, Drop)]
+pub(crate) struct Task {
+    pub(crate) cells: Vec<i64>,
+    pub(crate) stack: Stack,
+    pub(crate) place: usize,
+    pub(crate) spent: u64,
+    pub(crate) ended: u64,
+    pub(crate) taken: Vec<u64>,
+    pub(crate) words: usize,
+}
+
+impl Task {
+    /// Silently on to a place.
+    pub(crate) fn move_to(&mut self, place: usize)
+        ensures { Becomes self.old self.new (move_to place self.old.stack self.old.cells.items (running_of self.old)).task }
+    {
+        self.place = place;
+        self.spent = 0;
+    }
+
+    /// On to the next instruction.
+    pub(crate) fn go_on(&mut self)
+        requires { self.old.place < 65536 }
+        ensures { Becomes self.old self.new (go_on self.old.stack self.old.cells.items (running_of self.old)).task }
+    {
+        self.place += 1;
+        self.spent = 0;
+    }
+
+    pub(crate) fn push(&mut self, value: i64)
+        requires place { self.old.place < 65536 }
+        requires room { length self.old.stack < 128 }
+        ensures { Becomes self.old self.new (go_on (value ∷ self.old.stack) self.old.cells.items (running_of self.old)).task }
+    {
+        self.stack.push(value);
+        self.go_on();
+    }
+
+    pub(crate) fn get(&mut self, cell: u32)
+        requires place { self.old.place < 65536 }
+        requires room { length self.old.stack < 128 }
+        requires cell { HasCells cell 1 (running_of self.old) }
+        ensures { Becomes self.old self.new (go_on (slice_index_or self.old.cells.items cell (pos 0) ∷ self.old.stack) self.old.cells.items (running_of self.old)).task }
+    {
+        let value = self.cells[cell as usize];
+        self.push(value);
+    }
+
+    pub(crate) fn put(&mut self, cell: u32)
+        requires place { self.old.place < 65536 }
+        requires stack { Holds 1 (running_of self.old) }
+        requires cell { HasCells cell 1 (running_of self.old) }
+        ensures { Becomes self.old self.new (go_on (below self.old.stack) (slice_set self.old.cells.items cell (top self.old.stack)) (running_of self.old)).task }
+    {
+        self.cells[cell as usize] = self.stack.pop();
+        self.go_on();
+    }
+
+    pub(crate) fn get_at(&mut self, first: u32, size: u32)
+        requires place { self.old.place < 65536 }
+        requires stack { Holds 1 (running_of self.old) }
+        requires cells { HasCells first size (running_of self.old) }
+        ensures { Becomes self.old self.new (go_on (element self.old.cells.items first size (top self.old.stack) ∷ below self.old.stack) self.old.cells.items (running_of self.old)).task }
+    {
+        let index = self.stack.pop();
+        let value = element(self.cells.as_slice(), first, size, index);
+        self.push(value);
+    }
+
+    pub(crate) fn put_at(&mut self, first: u32, size: u32)
+        requires place { self.old.place < 65536 }
+        requires stack { Holds 2 (running_of self.old) }
+        requires cells { HasCells first size (running_of self.old) }
+        ensures { Becomes self.old self.new (go_on (below (below self.old.stack)) (with_element self.old.cells.items first size (top (below self.old.stack)) (top self.old.stack)) (running_of self.old)).task }
+    {
+        let value = self.stack.pop();
+        let index = self.stack.pop();
+        set_element(self.cells.as_mut_slice(), first, size, index, value);
+        self.go_on();
+    }
+
+    pub(crate) fn arith(&mut self, op: Op)
+        requires place { self.old.place < 65536 }
+        requires stack { Holds (if is_unary op then 1 else 2) (running_of self.old) }
+        ensures { Becomes self.old self.new (go_on (applied op self.old.stack) self.old.cells.items (running_of self.old)).task }
+    {
+        apply(&mut self.stack, op);
+        self.go_on();
+    }
+
+    pub(crate) fn branch(&mut self, target: u32)
+        requires place { self.old.place < 65536 }
+        requires stack { Holds 1 (running_of self.old) }
+        ensures { Becomes self.old self.new (move_to (if holds (top self.old.stack) then self.old.place + 1 else target) (below self.old.stack) self.old.cells.items (running_of self.old)).task }
+    {
+        let value = self.stack.pop();
+        let place = if holds(value) {
+            self.place + 1
+        } else {
+            target as usize
+        };
+        self.move_to(place);
+    }
+
+    pub(crate) fn turn(&mut self, cell: u32, turns: u32, target: u32)
+        requires place { self.old.place < 65536 }
+        requires cell { HasCells cell 1 (running_of self.old) }
+        ensures { let count = counted self.old.cells.items cell in Becomes self.old self.new (move_to (if int_lt count (pos turns) then target else self.old.place + 1) self.old.stack (slice_set self.old.cells.items cell count) (running_of self.old)).task }
+    {
+        let count = add(self.cells[cell as usize], 1);
+        self.cells[cell as usize] = count;
+        let place = if count < i64::from(turns) {
+            target as usize
+        } else {
+            self.place + 1
+        };
+        self.move_to(place);
+    }
+
+    pub(crate) fn copy(&mut self, from: u32, to: u32, size: u32)
+        requires place { self.old.place < 65536 }
+        requires from { HasCells from size (running_of self.old) }
+        requires to { HasCells to size (running_of self.old) }
+        ensures { Becomes self.old self.new (go_on self.old.stack (copied self.old.cells.items from to size) (running_of self.old)).task }
+    {
+        copy(self.cells.as_mut_slice(), from, to, size);
+        self.go_on();
+    }
+
+    pub(crate) fn receive(&mut self, port: u32, cell: u32, value: i64)
+        requires place { self.old.place < 65536 }
+        requires cell { HasCells cell 1 (running_of self.old) }
+        requires port { port < length self.old.taken.items }
+        requires more { slice_index self.old.taken.items port < 2 ^ 63 }
+        ensures running { running_of self.new ≡ record { cells = slice_set self.old.cells.items cell value; stack = self.old.stack; place = self.old.place + 1; spent = 0; ended = self.old.ended; taken = slice_set self.old.taken.items port (slice_index self.old.taken.items port + 1) } }
+        ensures words { self.new.words ≡ self.old.words }
+    {
+        self.cells[cell as usize] = value;
+        self.taken[port as usize] += 1;
+        self.go_on();
+    }
+
+    /// Pops the value that goes out.
+    pub(crate) fn send(&mut self) -> i64
+        requires place { self.old.place < 65536 }
+        requires stack { Holds 1 (running_of self.old) }
+        ensures value { result ≡ top self.old.stack }
+        ensures task { Becomes self.old self.new (go_on (below self.old.stack) self.old.cells.items (running_of self.old)).task }
+    {
+        let value = self.stack.pop();
+        self.go_on();
+        value
+    }
+
+    /// The words of the states.
+    pub(crate) fn state(&self) -> &[i64]
+        requires { self.now.words ≤ length self.now.cells.items }
+        ensures { result.now ≡ state_of self.now }
+    {
+        &self.cells.as_slice()[..self.words]
+    }
+
+    /// On to the next frame.
+    pub(crate) fn end(&mut self)
+        requires words { self.old.words ≤ length self.old.cells.items }
+        requires ended { self.old.ended < 2 ^ 63 }
+        ensures { Becomes self.old self.new (end_frame self.old.words (running_of self.old)).task }
+    {
+        clear(self.cells.as_mut_slice(), self.words);
+        self.ended += 1;
+        self.place = 0;
+        self.spent = 0;
+    }
+}
+
+fn apply(stack: &mut Stack, op: Op)
+    requires holds { (if is_unary op then 1 else 2) ≤ length stack.old }
+    requires depth { length stack.old ≤ 128 }
+    ensures { stack.new ≡ applied op stack.old }
+{
+    let a = stack.pop();
+    let value = if is_unary(op) {
+        unary(op, a)
+    } else {
+        binary(op, stack.pop(), a)
+    };
+    stack.push(value);
+}
