@@ -2,22 +2,14 @@
 use Rattle.std.specs.Prelude.{ℕ, ℤ, List, ◌++◌, codes}
 use Rattle.std.specs.List.{flat_map}
 use Rattle.std.specs.Fmt.{decimal, signed_decimal}
-use Rattle.tcel_num.specs.Entry.{Entry, What, receive, send, first, end}
+use Rattle.tcel_num.specs.Entry.{Entry}
 use Rattle.tcel_image.specs.declared.image.ImageState.{ImageState}
 use Rattle.tcel_image.specs.TraceText.{value_text}
-use Rattle.tcel_trace.specs.declared.entry.Entry as declared_entry
-use Rattle.tcel_trace.specs.declared.entry.What as declared
-use Rattle.tcel_trace.specs.declared.entry.What.TheVariants as shown
-
--- what an entry shows, in a task whose states hold these words
-abbrev pub seen : List ℤ → declared.What → What
-seen state (shown.Receive port value) = receive port value
-seen state (shown.Send port value) = send port value
-seen state shown.First = first
-seen state shown.End = end state
+use Rattle.tcel_machine.specs.declared.entry.Entry as declared
+use Rattle.tcel_machine.specs.Seen.{seen}
 
 -- the entry, in a task whose states hold these words
-abbrev pub plain_entry : List ℤ → declared_entry.Entry → Entry
+abbrev pub plain_entry : List ℤ → declared.Entry → Entry
 plain_entry state entry = record { time = entry.time; task = entry.task; frame = entry.frame; what = seen state entry.what }
 
 -- the time, the task and the frame

@@ -2,14 +2,12 @@
 #![tactic(auto)]
 
 mod buffer;
-mod entry;
 mod line;
 mod numbers;
 mod states;
 
 pub use buffer::Buffer;
-pub use entry::{Entry, What};
-pub use line::put_line;
+pub use line::put_entry;
 
 #[cfg(test)]
 mod tests;

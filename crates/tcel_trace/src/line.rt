@@ -1,16 +1,17 @@
 ghost use Rattle.std.specs.Prelude.{◌≡◌, ◌+◌, ◌*◌, ◌≤◌, ◌++◌, [], length, slice_index_or};
 ghost use Rattle.tcel_image.specs.Spelling.{state_words};
 ghost use Rattle.tcel_image.specs.TraceText.{port_text, what_text, line_of, line};
-ghost use Rattle.tcel_trace.specs.Pieces.{seen, plain_entry, head_text};
+ghost use Rattle.tcel_machine.specs.Seen.{seen};
+ghost use Rattle.tcel_machine.specs.Run.{entry_seen};
+ghost use Rattle.tcel_trace.specs.Pieces.{plain_entry, head_text};
 ghost use Rattle.tcel_trace.specs.Room.{HasRoom};
 
 use crate::buffer::Buffer;
-use crate::entry::{Entry, What};
 use crate::numbers::{put_decimal, put_signed};
 use crate::states::put_states;
 use tcel_image::ImageTask;
+use tcel_machine::{Entry, Machine, What};
 use tcel_num::Name;
-use tcel_verify::Ready;
 
 /// The name at this place, and nothing where there is none.
 fn put_name(buffer: &mut Buffer, names: &[Name], place: u32)
@@ -83,16 +84,15 @@ fn put_task_line(buffer: &mut Buffer, task: &ImageTask, entry: &Entry, state: &[
     buffer.push(b"\n");
 }
 
-/// Leaves in the buffer exactly the line of this entry of the image, and nothing where the image has no
-/// such task. `state` is read for `End` alone: the words of the task's states, in order. It takes no
-/// memory (docs/formats.md).
-pub fn put_line(buffer: &mut Buffer, ready: &Ready, entry: &Entry, state: &[i64])
-    requires { HasRoom buffer.old.room ready.now }
-    ensures line { buffer.new.bytes ≡ line ready.now (plain_entry state.now entry.now) }
-    ensures room { HasRoom buffer.new.room ready.now }
+/// Leaves in the buffer exactly the line of the last tick's entry (docs/formats.md). The state is the one
+/// that the machine has now; of a task that the image has not there is no line. It takes no memory.
+pub fn put_entry(buffer: &mut Buffer, machine: &Machine, entry: &Entry)
+    requires { HasRoom buffer.old.room machine.now.image }
+    ensures line { buffer.new.bytes ≡ line machine.now.image (entry_seen machine.now.image.tasks machine.now.machine.tasks entry.now) }
+    ensures room { HasRoom buffer.new.room machine.now.image }
 {
     buffer.clear();
-    if let Some(task) = ready.image().tasks.get(entry.task as usize) {
-        put_task_line(buffer, task, entry, state);
+    if let Some(task) = machine.ready().image().tasks.get(entry.task as usize) {
+        put_task_line(buffer, task, entry, machine.state(entry.task));
     }
 }

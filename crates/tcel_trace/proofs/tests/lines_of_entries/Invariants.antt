@@ -2,4 +2,4 @@ use Rattle.tcel_trace.specs.Room.{HasRoom}
 use Rattle.tcel_trace.proofs.tests.lines_of_entries.Given as goal
 
 abbrev pub invariant-loop-time : goal.invariant-loop-time
-invariant-loop-time g l = HasRoom l.buffer.room l.ready-inside.image
+invariant-loop-time g l = HasRoom l.buffer.room l.machine.image
