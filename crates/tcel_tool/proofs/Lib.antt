@@ -16,3 +16,11 @@ pub mod ServedAlone
 pub mod ReachedInTime
 pub mod WholeSets
 pub mod PlainMeets
+pub mod Options
+pub mod Places
+pub mod Straight
+pub mod CommandWords
+pub mod Refusals
+pub mod StraightPlans
+pub mod OneTask
+pub mod Kept

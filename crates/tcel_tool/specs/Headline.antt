@@ -21,3 +21,9 @@ abbrev pub CompiledProgramsMeetTheirSource : Type 0
 CompiledProgramsMeetTheirSource =
     (tree : PlainTree) (costs : Costs) (plan : Plan) → IsPlain tree → CostsInRange costs → IsWholePlan (task_of tree) costs plan →
     plan.total ≤ plan.period → RunsMeet tree costs plan
+
+-- a program's image keeps its promise: by the whole plan of the program's task, every run meets the program
+pub record KeepsItsPromise (tree : PlainTree) (costs : Costs) : Type 0 where
+  pub plan : Plan
+  pub whole : IsWholePlan (task_of tree) costs plan
+  pub runs : RunsMeet tree costs plan

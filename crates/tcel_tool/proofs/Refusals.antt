@@ -1,0 +1,177 @@
+-- How the stages of `compile` refuse, one after another.
+use Rattle.std.proofs.Common.{◌≡◌, ◌≢◌, ℕ, ◌+◌, ◌<◌, ◌≤◌, List, [], ◌∷◌, ◌++◌, Option, Some, None, refl, sym, ap, ◌∙◌, subst, zero, suc, ◌*◌, ◌/◌, inl, inr, length, append_assoc, append-nil, arith, ◌⊎◌}
+use Rattle.std.specs.Prelude.{IfSome}
+use Rattle.std.proofs.lemmas.List.Elements.{All-from_recursion, recursion_from_All}
+use Rattle.tcel_num.specs.Plan.{Plan}
+use Rattle.tcel_tool.specs.PlainTree.{IsPlain}
+use Rattle.tcel_tool.specs.StraightPlan.{body_cycles, plan_of}
+use Rattle.tcel_tool.proofs.StraightPlans.{plan_is}
+use Rattle.tcel_io.specs.Load.{Load, AddsLoads}
+use Rattle.tcel_io.specs.Shelf.{TellsTheSame}
+use Rattle.tcel_io.specs.declared.loaded.Outcome.TheVariants.{Done, Fault, TooLong}
+use Rattle.tcel_tool.specs.declared.plain_tree.PlainTree.{PlainTree}
+use Rattle.tcel_tool.specs.declared.status.Status.{Status}
+use Rattle.tcel_tool.specs.declared.status.Status.TheVariants as statuses
+use Rattle.tcel_tool.specs.declared.status.LimitFault.{LimitFault}
+use Rattle.tcel_tool.specs.declared.status.LimitFault.TheVariants as limits
+use Rattle.tcel_tool.specs.Answer.{Accepts, Answers, AreLoads, Compiles, Demands, Overloads, HasOtherTarget, IsLateRefusal, IsLoadRefusal, Refuses, RefusesTarget, both_loads, load_of, program_limit, target_limit, program_load, target_load, unit_target}
+
+-- the program can't be loaded
+pub refused_program : (program target : List ℕ) (told : List ℕ → Option (List ℕ)) (old new : List Load) (status : Status)
+    → IsLoadRefusal program 1 program_limit told old new status → Refuses program target told old new status
+refused_program program target told old new statuses.Ok h = absurd h
+refused_program program target told old new (statuses.Overload cycles hyper) h = absurd h
+refused_program program target told old new (statuses.Limit (limits.Bytes w l)) h =
+    record {
+      added = load_of program program_limit TooLong ∷ [];
+      loads = inl (h.0, h.1, refl);
+      adds = h.2;
+      cause = inl (h.0, subst (λ n. IfSome (told program) (λ bytes. n < length bytes)) (sym h.1) h.3);
+    }
+refused_program program target told old new statuses.Words h = absurd h
+refused_program program target told old new (statuses.ReadFault w) h =
+    record {
+      added = load_of program program_limit Fault ∷ [];
+      loads = (program_limit, inl (h.0, refl, refl));
+      adds = h.1;
+      cause = tt;
+    }
+refused_program program target told old new statuses.WriteFault h = absurd h
+refused_program program target told old new statuses.NoMemory h = record { added = []; loads = inl refl; adds = h; cause = tt }
+refused_program program target told old new (statuses.Beyond w) h = absurd h
+
+-- the loaded program isn't accepted
+pub refused_text : (program target : List ℕ) (told : List ℕ → Option (List ℕ)) (old new : List Load) (status : Status)
+    → (status ≡ statuses.NoMemory) ⊎ (status ≡ statuses.Beyond 1) → AddsLoads (program_load program Done ∷ []) old new → Refuses program target told old new status
+refused_text program target told old new status h adds =
+    elim h [
+      | inl e ↦
+          subst (Refuses program target told old new) (sym e)
+          (let r : Refuses program target told old new statuses.NoMemory = record { added = program_load program Done ∷ []; loads = inr (inl refl); adds = adds; cause = tt } in r)
+      | inr e ↦
+          subst (Refuses program target told old new) (sym e)
+          (let r : Refuses program target told old new (statuses.Beyond 1) =
+          record { added = program_load program Done ∷ []; loads = (program_limit, inl (refl, refl, refl)); adds = adds; cause = inl refl } in r)
+    ]
+
+two : (program target : List ℕ) (a b : Load) (old middle new : List Load) → AddsLoads (a ∷ []) old middle → AddsLoads (b ∷ []) middle new → AddsLoads (a ∷ b ∷ []) old new
+two program target a b old middle new first second = second ∙ ap (λ l. l ++ b ∷ []) first ∙ append_assoc old (a ∷ []) (b ∷ [])
+
+-- the target is refused behind an accepted program
+pub refused_target : (program target : List ℕ) (told later : List ℕ → Option (List ℕ)) (old middle new : List Load) (tree : PlainTree) (status : Status)
+    → AddsLoads (program_load program Done ∷ []) old middle → TellsTheSame told later → Accepts (told program) tree → RefusesTarget target later middle new status
+    → Refuses program target told old new status
+refused_target program target told later old middle new tree statuses.Ok first same accepts h = absurd h
+refused_target program target told later old middle new tree (statuses.Overload cycles hyper) first same accepts h = absurd h
+refused_target program target told later old middle new tree (statuses.Limit (limits.Bytes w l)) first same accepts h =
+    record {
+      added = program_load program Done ∷ target_load target TooLong ∷ [];
+      loads = inr (h.0, h.1, refl);
+      adds = two program target (program_load program Done) (target_load target TooLong) old middle new first h.2;
+      cause = inr (h.0, subst (λ t. IfSome t (λ bytes. l < length bytes)) (same target) (subst (λ n. IfSome (later target) (λ bytes. n < length bytes)) (sym h.1) h.3));
+    }
+refused_target program target told later old middle new tree statuses.Words first same accepts h = absurd h
+refused_target program target told later old middle new tree (statuses.ReadFault w) first same accepts h =
+    record {
+      added = program_load program Done ∷ target_load target Fault ∷ [];
+      loads = (target_limit, inr (h.0, refl, refl));
+      adds = two program target (program_load program Done) (target_load target Fault) old middle new first h.1;
+      cause = tt;
+    }
+refused_target program target told later old middle new tree statuses.WriteFault first same accepts h = absurd h
+refused_target program target told later old middle new tree statuses.NoMemory first same accepts h =
+    record {
+      added = program_load program Done ∷ [];
+      loads = inr (inl refl);
+      adds = h ∙ simp append-nil first;
+      cause = tt;
+    }
+refused_target program target told later old middle new tree (statuses.Beyond w) first same accepts h =
+    record {
+      added = both_loads program target;
+      loads = (target_limit, inr (h.0, refl, refl));
+      adds = two program target (program_load program Done) (target_load target Done) old middle new first h.1;
+      cause =
+          inr (
+            h.0,
+            (tree, record { accepts = accepts; other = subst (λ t. IfSome t (λ bytes. bytes ≢ unit_target)) (same target) h.2 }),
+          );
+    }
+
+-- both files were loaded, and what follows refuses
+pub refused_later : (program target : List ℕ) (told : List ℕ → Option (List ℕ)) (old middle new : List Load) (tree : PlainTree) (cycles hyper : ℕ) (status : Status)
+    → AddsLoads (program_load program Done ∷ []) old middle → AddsLoads (target_load target Done ∷ []) middle new
+    → ((status ≡ statuses.Overload cycles hyper) × Overloads (told program) (told target) tree cycles hyper) ⊎ (status ≡ statuses.NoMemory)
+    → Refuses program target told old new status
+refused_later program target told old middle new tree cycles hyper status first second h =
+    let adds = two program target (program_load program Done) (target_load target Done) old middle new first second in
+    elim h [
+      | inl e ↦
+          subst (Refuses program target told old new) (sym e.0)
+          (let r : Refuses program target told old new (statuses.Overload cycles hyper) = record { added = both_loads program target; loads = refl; adds = adds; cause = (tree, e.1) } in r)
+      | inr e ↦
+          subst (Refuses program target told old new) (sym e)
+          (let r : Refuses program target told old new statuses.NoMemory = record { added = both_loads program target; loads = inr (inr refl); adds = adds; cause = tt } in r)
+    ]
+
+one_period : (n : ℕ) → 1 ≤ n → n / n ≡ 1
+one_period n low = grind arith
+
+least_of : (period m : ℕ) → 0 < m → (k : ℕ) × (m ≡ k * period) → period ≤ m
+least_of period m above (zero, is) = absurd (omega (arith, is))
+least_of period m above (suc k, is) = omega (arith, is)
+
+total_once : (total times : ℕ) → times ≡ 1 → total ≡ 0 + total * times
+total_once total times is = rw is (omega arith)
+
+-- the demand of one frame in its own period
+demands_of : (tree : PlainTree) → IsPlain tree → Demands tree (body_cycles tree.body + 2) tree.period
+demands_of tree plain =
+    let low : 1 ≤ tree.period = omega (arith, plain.period.0) in
+    let once : (k : ℕ) × (tree.period ≡ k * tree.period) = (1, omega arith) in
+    let whole_times : tree.period / tree.period ≡ 1 = one_period tree.period low in
+    record {
+      plans = plan_of tree ∷ [];
+      whole = (plan_is tree, refl);
+      period =
+          record {
+            positive = low;
+            common = All-from_recursion (λ (plan : Plan). (k : ℕ) × (tree.period ≡ k * plan.period)) (plan_of tree ∷ []) (once, tt);
+            least = λ m above common. least_of tree.period m above (recursion_from_All (λ (plan : Plan). (k : ℕ) × (m ≡ k * plan.period)) (plan_of tree ∷ []) common).0;
+          };
+      cycles_of = total_once (body_cycles tree.body + 2) (tree.period / tree.period) whole_times;
+    }
+
+-- an accepted program with cycles that fit
+pub compiles_of : (program target : Option (List ℕ)) (tree : PlainTree) → Accepts program tree → IfSome target (λ bytes. bytes ≡ unit_target) → body_cycles tree.body + 2 ≤ tree.period → Compiles program target tree
+compiles_of program target tree accepts unit fits =
+    record {
+      accepts = accepts;
+      unit = unit;
+      cycles = body_cycles tree.body + 2;
+      hyper = tree.period;
+      demands = demands_of tree accepts.plain;
+      fits = fits;
+    }
+
+-- an accepted program with cycles that don't fit, or no memory
+pub refused_late : (program target : List ℕ) (told : List ℕ → Option (List ℕ)) (old middle new : List Load) (tree : PlainTree) (status : Status)
+    → AddsLoads (program_load program Done ∷ []) old middle → AddsLoads (target_load target Done ∷ []) middle new → Accepts (told program) tree
+    → IfSome (told target) (λ bytes. bytes ≡ unit_target) → IsLateRefusal tree status → Refuses program target told old new status
+refused_late program target told old middle new tree status first second accepts unit h =
+    refused_later program target told old middle new tree (body_cycles tree.body + 2) tree.period status first second
+    (elim h [
+      | inl e ↦ inl (e.0, record { accepts = accepts; unit = unit; demands = demands_of tree accepts.plain; above = e.1 })
+      | inr e ↦ inr e
+    ])
+
+-- a refusal writes nothing, so its cause holds whatever out takes
+pub cause_of : (program target : Option (List ℕ)) (All Some_of : List ℕ → Type 0) (status : Status) → Answers program target (λ text. ⊥) (λ text. ⊥) status → Answers program target All Some_of status
+cause_of program target All Some_of statuses.Ok h = absurd h.2
+cause_of program target All Some_of (statuses.Overload cycles hyper) h = h
+cause_of program target All Some_of (statuses.Limit (limits.Bytes w l)) h = h
+cause_of program target All Some_of statuses.Words h = h
+cause_of program target All Some_of (statuses.ReadFault w) h = h
+cause_of program target All Some_of statuses.WriteFault h = absurd h.2
+cause_of program target All Some_of statuses.NoMemory h = h
+cause_of program target All Some_of (statuses.Beyond w) h = h

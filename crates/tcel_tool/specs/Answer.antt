@@ -1,0 +1,167 @@
+-- What a call of the tool answers, and what it does to its files and streams.
+use Rattle.std.specs.Prelude.{◌≡◌, ◌≢◌, ℕ, ◌+◌, ◌<◌, ◌≤◌, ◌⊎◌, Bool, true, false, List, [], ◌∷◌, Option, IfSome, length, codes}
+use Rattle.tcel_num.specs.Plan.{Plan}
+use Rattle.tcel_io.specs.Load.{Load, AddsLoads}
+use Rattle.tcel_io.specs.declared.loaded.Outcome.{Outcome}
+use Rattle.tcel_io.specs.declared.loaded.Outcome.TheVariants.{Done, Fault, TooLong}
+use Rattle.tcel_image.specs.Examples.{unit_costs}
+use Rattle.tcel_image.specs.declared.image.Image.{Image}
+use Rattle.tcel_image.specs.Spelling.{spelling, InRange}
+use Rattle.tcel_tool.specs.declared.plain_tree.PlainTree.{PlainTree}
+use Rattle.tcel_tool.specs.declared.status.Status.{Status}
+use Rattle.tcel_tool.specs.declared.status.Status.TheVariants as statuses
+use Rattle.tcel_tool.specs.declared.status.LimitFault.{LimitFault}
+use Rattle.tcel_tool.specs.declared.status.LimitFault.TheVariants as limits
+use Rattle.tcel_tool.specs.CanonicalText.{text_of}
+use Rattle.tcel_tool.specs.FaultLine.{word_at}
+use Rattle.tcel_tool.specs.Hyperperiod.{IsHyperperiod, demand}
+use Rattle.tcel_tool.specs.Layout.{image_of}
+use Rattle.tcel_tool.specs.PlainTree.{IsPlain, set_of}
+use Rattle.tcel_tool.specs.StraightPlan.{body_cycles}
+use Rattle.tcel_tool.specs.WholePlan.{AreWholePlans}
+
+-- ---- the words
+
+-- `compile`, a program and a target
+abbrev pub IsCompile : List (List ℕ) → Type 0
+IsCompile words = (program : List ℕ) × (target : List ℕ) × (words ≡ codes "compile" ∷ program ∷ target ∷ [])
+
+-- ---- the loads
+
+-- the most bytes of a program, and of a target
+abbrev pub program_limit : ℕ
+program_limit = 1048576
+
+abbrev pub target_limit : ℕ
+target_limit = 65536
+
+abbrev pub program_load : List ℕ → Outcome → Load
+program_load program outcome = record { name = program; limit = program_limit; outcome = outcome }
+
+abbrev pub target_load : List ℕ → Outcome → Load
+target_load target outcome = record { name = target; limit = target_limit; outcome = outcome }
+
+-- both files were loaded
+abbrev pub both_loads : List ℕ → List ℕ → List Load
+both_loads program target = program_load program Done ∷ target_load target Done ∷ []
+
+-- the last of the loads is that of this word, with its limit, and ended so; each one before it was done
+abbrev pub EndWith : Outcome → List ℕ → List ℕ → ℕ → ℕ → List Load → Type 0
+EndWith outcome program target word limit loads =
+    ((word ≡ 1) × (limit ≡ program_limit) × (loads ≡ program_load program outcome ∷ []))
+    ⊎ ((word ≡ 2) × (limit ≡ target_limit) × (loads ≡ program_load program Done ∷ target_load target outcome ∷ []))
+
+-- the loads of `compile` where it ends with this status: each file once, in order, up to the last one made
+abbrev pub AreLoads : List ℕ → List ℕ → Status → List Load → Type 0
+AreLoads program target statuses.Ok loads = loads ≡ both_loads program target
+AreLoads program target (statuses.Overload cycles hyper) loads = loads ≡ both_loads program target
+AreLoads program target (statuses.Limit (limits.Bytes word limit)) loads = EndWith TooLong program target word limit loads
+AreLoads program target statuses.Words loads = ⊥
+AreLoads program target (statuses.ReadFault word) loads = (limit : ℕ) × EndWith Fault program target word limit loads
+AreLoads program target statuses.WriteFault loads = loads ≡ both_loads program target
+AreLoads program target statuses.NoMemory loads =
+    (loads ≡ []) ⊎ (loads ≡ program_load program Done ∷ []) ⊎ (loads ≡ both_loads program target)
+AreLoads program target (statuses.Beyond word) loads = (limit : ℕ) × EndWith Done program target word limit loads
+
+-- the loads that a call adds: none where the words have no form of a command
+abbrev pub AreLoadsOf : List (List ℕ) → Status → List Load → Type 0
+AreLoadsOf words statuses.Words loads = loads ≡ []
+AreLoadsOf words status loads = AreLoads (word_at words 1) (word_at words 2) status loads
+
+-- ---- the answer
+
+-- the target in which each cost is 1 cycle
+abbrev pub unit_target : List ℕ
+unit_target =
+    codes "const = 1\nload = 1\nstore = 1\nload_at = 1\nstore_at = 1\narith = 1\nmultiply = 1\ndivide = 1\njump = 1\nbranch = 1\nloop = 1\nreceive = 1\nsend = 1\nmark = 1\nend = 1\n"
+
+-- the program's bytes, where they are told, are the canonical text of this plain tree
+pub record Accepts (program : Option (List ℕ)) (tree : PlainTree) : Type 0 where
+  pub plain : IsPlain tree
+  pub text : IfSome program (λ bytes. bytes ≡ text_of tree)
+
+-- the frames of a hyperperiod ask for so many cycles
+pub record Demands (tree : PlainTree) (cycles hyper : ℕ) : Type 0 where
+  pub plans : List Plan
+  pub whole : AreWholePlans (set_of tree) unit_costs plans
+  pub period : IsHyperperiod plans hyper
+  pub cycles_of : cycles ≡ demand plans hyper
+
+-- the bytes of the image of the tree's set
+abbrev pub image_bytes : PlainTree → List ℕ
+image_bytes tree = spelling (image_of (set_of tree) unit_costs)
+
+-- the image of the tree's set, which has a spelling
+pub record IsImageOf (tree : PlainTree) (image : Image) : Type 0 where
+  pub exact : image ≡ image_of (set_of tree) unit_costs
+  pub spelled : InRange image
+
+-- the program is accepted, the target is that of unit costs, and the demand fits the hyperperiod
+pub record Compiles (program target : Option (List ℕ)) (tree : PlainTree) : Type 0 where
+  pub accepts : Accepts program tree
+  pub unit : IfSome target (λ bytes. bytes ≡ unit_target)
+  pub cycles : ℕ
+  pub hyper : ℕ
+  pub demands : Demands tree cycles hyper
+  pub fits : cycles ≤ hyper
+
+-- the same, but the demand is above the hyperperiod
+pub record Overloads (program target : Option (List ℕ)) (tree : PlainTree) (cycles hyper : ℕ) : Type 0 where
+  pub accepts : Accepts program tree
+  pub unit : IfSome target (λ bytes. bytes ≡ unit_target)
+  pub demands : Demands tree cycles hyper
+  pub above : hyper < cycles
+
+-- the program is accepted, and the target is another one
+pub record HasOtherTarget (program target : Option (List ℕ)) (tree : PlainTree) : Type 0 where
+  pub accepts : Accepts program tree
+  pub other : IfSome target (λ bytes. bytes ≢ unit_target)
+
+-- when a call gives this status, for the bytes of its files where they are told, what out took whole, and what it took in part
+abbrev pub Answers : Option (List ℕ) → Option (List ℕ) → (List ℕ → Type 0) → (List ℕ → Type 0) → Status → Type 0
+Answers program target TookAll TookSome statuses.Ok = (tree : PlainTree) × Compiles program target tree × TookAll (image_bytes tree)
+Answers program target TookAll TookSome (statuses.Overload cycles hyper) = (tree : PlainTree) × Overloads program target tree cycles hyper
+Answers program target TookAll TookSome (statuses.Limit (limits.Bytes word limit)) =
+    ((word ≡ 1) × IfSome program (λ bytes. limit < length bytes)) ⊎ ((word ≡ 2) × IfSome target (λ bytes. limit < length bytes))
+Answers program target TookAll TookSome statuses.WriteFault = (tree : PlainTree) × Compiles program target tree × TookSome (image_bytes tree)
+Answers program target TookAll TookSome (statuses.Beyond word) = (word ≡ 1) ⊎ ((word ≡ 2) × ((tree : PlainTree) × HasOtherTarget program target tree))
+Answers program target TookAll TookSome _ = Unit {0}
+
+-- whether a call with this status puts something into out
+abbrev pub writes : Status → Bool
+writes statuses.Ok = true
+writes statuses.WriteFault = true
+writes _ = false
+
+-- `compile` ends with this status before it puts anything into out
+pub record Refuses (program target : List ℕ) (told : List ℕ → Option (List ℕ)) (old new : List Load) (status : Status) : Type 0 where
+  pub added : List Load
+  pub loads : AreLoads program target status added
+  pub adds : AddsLoads added old new
+  pub cause : Answers (told program) (told target) (λ text. ⊥) (λ text. ⊥) status
+
+-- a load of one file
+abbrev pub load_of : List ℕ → ℕ → Outcome → Load
+load_of name limit outcome = record { name = name; limit = limit; outcome = outcome }
+
+-- one load gives no bytes, with this status of its word
+abbrev pub IsLoadRefusal : List ℕ → ℕ → ℕ → (List ℕ → Option (List ℕ)) → List Load → List Load → Status → Type 0
+IsLoadRefusal name word limit told old new (statuses.ReadFault w) = (w ≡ word) × AddsLoads (load_of name limit Fault ∷ []) old new
+IsLoadRefusal name word limit told old new (statuses.Limit (limits.Bytes w l)) =
+    (w ≡ word) × (l ≡ limit) × AddsLoads (load_of name limit TooLong ∷ []) old new × IfSome (told name) (λ bytes. limit < length bytes)
+IsLoadRefusal name word limit told old new statuses.NoMemory = AddsLoads [] old new
+IsLoadRefusal name word limit told old new _ = ⊥
+
+-- the target gives no table, with this status: it can't be loaded, or it is another one than that of unit costs
+abbrev pub RefusesTarget : List ℕ → (List ℕ → Option (List ℕ)) → List Load → List Load → Status → Type 0
+RefusesTarget target told old new (statuses.Beyond w) =
+    (w ≡ 2) × AddsLoads (target_load target Done ∷ []) old new × IfSome (told target) (λ bytes. bytes ≢ unit_target)
+RefusesTarget target told old new status = IsLoadRefusal target 2 target_limit told old new status
+
+-- the frames ask for more cycles than their period has
+abbrev pub IsOverload : PlainTree → Status → Type 0
+IsOverload tree status = (status ≡ statuses.Overload (body_cycles tree.body + 2) tree.period) × (tree.period < body_cycles tree.body + 2)
+
+-- why an accepted tree has no image for a target that is accepted too
+abbrev pub IsLateRefusal : PlainTree → Status → Type 0
+IsLateRefusal tree status = IsOverload tree status ⊎ (status ≡ statuses.NoMemory)

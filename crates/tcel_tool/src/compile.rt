@@ -1,0 +1,201 @@
+ghost use Rattle.std.specs.Prelude.{◌≡◌, ◌+◌, ◌<◌, ◌≤◌, ℕ, List, [], ◌∷◌, IfOk, IfErr, IfSome, OnOk, OnErr, IsTrue, ◌⊎◌};
+ghost use Rattle.tcel_io.specs.Count.{Rose, PutsAtMost};
+ghost use Rattle.tcel_io.specs.Load.{AddsLoads, Load, entries_of};
+ghost use Rattle.tcel_io.specs.Reach.{ReachesWithin};
+ghost use Rattle.tcel_io.specs.Shelf.{TellsTheSame};
+ghost use Rattle.tcel_io.specs.Taken.{Takes, TakesPrefix};
+ghost use Rattle.tcel_io.specs.declared.loaded.Outcome.TheVariants.{Done};
+ghost use Rattle.tcel_tool.specs.Answer.{Accepts, Answers, AreLoads, Compiles, IsImageOf, IsLateRefusal, IsOverload, Refuses, both_loads, image_bytes, load_of, program_load, target_load, unit_target, writes, IsLoadRefusal, RefusesTarget};
+ghost use Rattle.tcel_tool.specs.PlainTree.{IsPlain};
+ghost use Rattle.tcel_tool.specs.StraightPlan.{body_cycles};
+ghost use Rattle.tcel_tool.specs.declared.plain_tree.PlainTree.{PlainTree};
+
+use crate::canonical::is_text_of;
+use crate::cursor::ReadFail;
+use crate::generate::image_of;
+use crate::plain_check::is_plain;
+use crate::plain_tree::PlainTree;
+use crate::plan::total_cycles;
+use crate::read::read_tree;
+use crate::status::{LimitFault, Status};
+use std::alloc::Global;
+use tcel_image::{Image, encode, in_range};
+use tcel_io::{LoadFail, Shelf, Sink};
+
+/// The most bytes of a program.
+const PROGRAM_LIMIT: usize = 1_048_576;
+
+/// The most bytes of a target.
+const TARGET_LIMIT: usize = 65_536;
+
+/// The target in which each cost is 1 cycle.
+const UNIT_TARGET: &[u8] =
+    b"const = 1\nload = 1\nstore = 1\nload_at = 1\nstore_at = 1\narith = 1\nmultiply = 1\ndivide = 1\njump = 1\nbranch = 1\nloop = 1\nreceive = 1\nsend = 1\nmark = 1\nend = 1\n";
+
+/// Writes the image of the program of word 1 for the target of word 2.
+pub(crate) fn compile<H: Shelf, K: Sink>(
+    alloc: Global,
+    program: &str,
+    target: &str,
+    shelf: &mut H,
+    out: &mut K,
+) -> Status
+    ensures loads { (added : List Load) × AreLoads program.now target.now result added × AddsLoads added (H.loads shelf.old) (H.loads shelf.new) }
+    ensures answer { Answers (H.told shelf.old program.now) (H.told shelf.old target.now)
+        (λ text. Takes text (K.taken out.old) (K.taken out.new))
+        (λ text. TakesPrefix text (K.taken out.old) (K.taken out.new)
+        × ReachesWithin text (K.taken out.old) (K.reach out.old) (K.reach out.new)) result }
+    ensures untouched { IsTrue (writes result) ⊎ (out.new ≡ out.old) }
+    ensures fault { result ≡ Status.WriteFault → Rose (K.faults out.old) (K.faults out.new) }
+    ensures puts { PutsAtMost 1 (K.puts out.old) (K.puts out.new) }
+{
+    match image_bytes(alloc, program, target, shelf) {
+        Ok(bytes) => put_image(&bytes, out),
+        Err(status) => status,
+    }
+}
+
+fn put_image<K: Sink>(bytes: &[u8], out: &mut K) -> Status
+    ensures ok { result ≡ Status.Ok → Takes bytes.now (K.taken out.old) (K.taken out.new) }
+    ensures prefix { TakesPrefix bytes.now (K.taken out.old) (K.taken out.new) }
+    ensures either { (result ≡ Status.Ok) ⊎ (result ≡ Status.WriteFault) }
+    ensures reach { ReachesWithin bytes.now (K.taken out.old) (K.reach out.old) (K.reach out.new) }
+    ensures fault { result ≡ Status.WriteFault → Rose (K.faults out.old) (K.faults out.new) }
+    ensures puts { PutsAtMost 1 (K.puts out.old) (K.puts out.new) }
+{
+    match out.put(bytes) {
+        Ok(()) => Status::Ok,
+        Err(_) => Status::WriteFault,
+    }
+}
+
+/// The bytes of the image.
+fn image_bytes<H: Shelf>(
+    alloc: Global,
+    program: &str,
+    target: &str,
+    shelf: &mut H,
+) -> Result<Vec<u8>, Status>
+    ensures bytes { IfOk result (λ bytes. (tree : PlainTree)
+        × Compiles (H.told shelf.old program.now) (H.told shelf.old target.now) tree × (bytes.items ≡ image_bytes tree)) }
+    ensures loads { OnOk result (AddsLoads (both_loads program.now target.now) (H.loads shelf.old) (H.loads shelf.new)) }
+    ensures refusal { IfErr result (Refuses program.now target.now (H.told shelf.old) (H.loads shelf.old) (H.loads shelf.new)) }
+{
+    let (tree, image) = load_program(alloc, program, shelf)?;
+    match load_target(alloc, target, shelf) {
+        Ok(()) => encode_fitting(alloc, &tree, &image),
+        Err(status) => Err(status),
+    }
+}
+
+/// The bytes of the tree's image, where its cycles fit its period.
+fn encode_fitting(alloc: Global, tree: &PlainTree, image: &Image) -> Result<Vec<u8>, Status>
+    requires plain { IsPlain tree.now }
+    requires image { IsImageOf tree.now image.now }
+    ensures bytes { IfOk result (λ bytes. bytes.items ≡ image_bytes tree.now) }
+    ensures fits { OnOk result (body_cycles tree.now.body + 2 ≤ tree.now.period) }
+    ensures refusal { IfErr result (IsLateRefusal tree.now) }
+{
+    refuse_overload(tree)?;
+    Ok(encode(alloc, image)?)
+}
+
+fn load_program<H: Shelf>(
+    alloc: Global,
+    program: &str,
+    shelf: &mut H,
+) -> Result<(PlainTree, Image), Status>
+    ensures accepted { IfOk result (λ r. Accepts (H.told shelf.old program.now) r.0) }
+    ensures image { IfOk result (λ r. IsImageOf r.0 r.1) }
+    ensures loads { OnOk result (AddsLoads (program_load program.now Done ∷ []) (H.loads shelf.old) (H.loads shelf.new)) }
+    ensures told { TellsTheSame (H.told shelf.old) (H.told shelf.new) }
+    ensures refusal { IfErr result (λ status. (target : List ℕ)
+        → Refuses program.now target (H.told shelf.old) (H.loads shelf.old) (H.loads shelf.new) status) }
+{
+    match load(alloc, program, 1, PROGRAM_LIMIT, shelf) {
+        Ok(text) => accept(alloc, &text),
+        Err(status) => Err(status),
+    }
+}
+
+/// The tree of the text with its image.
+fn accept(alloc: Global, text: &[u8]) -> Result<(PlainTree, Image), Status>
+    ensures accepted { IfOk result (λ r. Accepts (Some text.now) r.0) }
+    ensures image { IfOk result (λ r. IsImageOf r.0 r.1) }
+    ensures refusal { IfErr result (λ status. (status ≡ Status.NoMemory) ⊎ (status ≡ Status.Beyond 1)) }
+{
+    let tree = tree_of(alloc, text)?;
+    let image = image_of(alloc, &tree)?;
+    if in_range(&image) {
+        Ok((tree, image))
+    } else {
+        Err(Status::Beyond { word: 1 })
+    }
+}
+
+/// The plain tree whose canonical text this is.
+fn tree_of(alloc: Global, text: &[u8]) -> Result<PlainTree, Status>
+    ensures accepted { IfOk result (Accepts (Some text.now)) }
+    ensures refusal { IfErr result (λ status. (status ≡ Status.NoMemory) ⊎ (status ≡ Status.Beyond 1)) }
+{
+    let tree = match read_tree(alloc, text) {
+        Ok(tree) => tree,
+        Err(ReadFail::NoMemory) => return Err(Status::NoMemory),
+        Err(ReadFail::NotPlain) => return Err(Status::Beyond { word: 1 }),
+    };
+    if is_text_of(text, &tree) && is_plain(&tree) {
+        Ok(tree)
+    } else {
+        Err(Status::Beyond { word: 1 })
+    }
+}
+
+fn load_target<H: Shelf>(alloc: Global, target: &str, shelf: &mut H) -> Result<(), Status>
+    ensures unit { OnOk result (IfSome (H.told shelf.old target.now) (λ bytes. bytes ≡ unit_target)) }
+    ensures loads { OnOk result (AddsLoads (target_load target.now Done ∷ []) (H.loads shelf.old) (H.loads shelf.new)) }
+    ensures refusal { IfErr result (λ status. RefusesTarget target.now (H.told shelf.old) (H.loads shelf.old) (H.loads shelf.new) status) }
+{
+    let text = load(alloc, target, 2, TARGET_LIMIT, shelf)?;
+    if text.as_slice() == UNIT_TARGET {
+        Ok(())
+    } else {
+        Err(Status::Beyond { word: 2 })
+    }
+}
+
+/// The bytes of a file, which is that of this word.
+fn load<H: Shelf>(
+    alloc: Global,
+    name: &str,
+    word: usize,
+    limit: usize,
+    shelf: &mut H,
+) -> Result<Vec<u8>, Status>
+    ensures bytes { IfOk result (λ bytes. IfSome (H.told shelf.old name.now) (λ told. bytes.items ≡ told)) }
+    ensures loads { OnOk result (AddsLoads (load_of name.now limit Done ∷ []) (H.loads shelf.old) (H.loads shelf.new)) }
+    ensures told { TellsTheSame (H.told shelf.old) (H.told shelf.new) }
+    ensures refusal { IfErr result (IsLoadRefusal name.now word limit (H.told shelf.old) (H.loads shelf.old) (H.loads shelf.new)) }
+{
+    let mut bytes = Vec::new(alloc);
+    match shelf.load(name, limit, &mut bytes) {
+        Ok(()) => Ok(bytes),
+        Err(LoadFail::Fault) => Err(Status::ReadFault { word }),
+        Err(LoadFail::TooLong) => Err(Status::Limit(LimitFault::Bytes { word, limit })),
+        Err(LoadFail::NoMemory) => Err(Status::NoMemory),
+    }
+}
+
+fn refuse_overload(tree: &PlainTree) -> Result<(), Status>
+    requires { IsPlain tree.now }
+    ensures fits { OnOk result (body_cycles tree.now.body + 2 ≤ tree.now.period) }
+    ensures overload { IfErr result (IsOverload tree.now) }
+{
+    let total = total_cycles(tree.body.as_slice());
+    if total > tree.period {
+        return Err(Status::Overload {
+            demand: total,
+            hyper: tree.period,
+        });
+    }
+    Ok(())
+}

@@ -1,0 +1,53 @@
+ghost use Rattle.std.specs.Prelude.{◌≡◌};
+ghost use Rattle.tcel_tool.specs.declared.status.Status.TheVariants.{NoMemory as memory};
+
+use tcel_num::NoMemory;
+
+/// How a call of `tcel` ended (docs/commands.md). `word` is the number of a word of the command line, where the command itself is 0.
+#[derive(Clone, Copy, Debug, PartialEq, Eq)]
+pub enum Status {
+    Ok,
+    /// The frames that are released in `hyper` ticks ask for `demand` cycles, which is more.
+    Overload { demand: u64, hyper: u64 },
+    Limit(LimitFault),
+    /// The words have no form of a command.
+    Words,
+    /// The file of this word can't be read.
+    ReadFault { word: usize },
+    /// The output couldn't be written.
+    WriteFault,
+    NoMemory,
+    /// The file of this word has a form that isn't built yet.
+    Beyond { word: usize },
+}
+
+/// A limit that is passed.
+#[derive(Clone, Copy, Debug, PartialEq, Eq)]
+pub enum LimitFault {
+    /// The file of this word has more bytes than the limit.
+    Bytes { word: usize, limit: usize },
+}
+
+impl Status {
+    /// The exit status.
+    pub fn code(&self) -> u8 {
+        match self {
+            Status::Ok => 0,
+            Status::Overload { .. } => 1,
+            Status::Limit(_) => 3,
+            Status::Words => 4,
+            Status::ReadFault { .. } => 5,
+            Status::WriteFault => 6,
+            Status::NoMemory => 7,
+            Status::Beyond { .. } => 20,
+        }
+    }
+}
+
+impl From<NoMemory> for Status {
+    ghost from_gives = { λ _ status. status ≡ memory };
+
+    fn from(_error: NoMemory) -> Status {
+        Status::NoMemory
+    }
+}

@@ -1,0 +1,337 @@
+use crate::status::{LimitFault, Status};
+use crate::tool::tcel;
+use std::alloc::{AllocError, Global};
+use std::process::Abort;
+use std::test::Fail;
+use tcel_io::{MemFile, MemShelf, MemSink, PutFail};
+
+const ECHO: &[u8] =
+    b"task t priority 1 {\n  input s;\n  output o;\n  state int n;\n  local int x;\n  every 10 {\n    receive x from s;\n    send x to o;\n    n := n + 1;\n  }\n}\n";
+
+const UNIT: &[u8] =
+    b"const = 1\nload = 1\nstore = 1\nload_at = 1\nstore_at = 1\narith = 1\nmultiply = 1\ndivide = 1\njump = 1\nbranch = 1\nloop = 1\nreceive = 1\nsend = 1\nmark = 1\nend = 1\n";
+
+/// The image of `ECHO`, as docs/formats.md lists it.
+const ECHO_IMAGE: [&[u8]; 26] = [
+    b"TCEL",
+    b"\x01\0\0\0",
+    b"\x01\0\0\0",
+    b"\x01\0\0\0\x01\0\0\0\x01\0\0\0\x01\0\0\0\x01\0\0\0",
+    b"\x01\0\0\0\x01\0\0\0\x01\0\0\0\x01\0\0\0\x01\0\0\0",
+    b"\x01\0\0\0\x01\0\0\0\x01\0\0\0\x01\0\0\0\x01\0\0\0",
+    b"\x01t",
+    b"\x0a\0\0\0",
+    b"\0",
+    b"\x01\0\x01s",
+    b"\x01\0\x01o",
+    b"\x01\0",
+    b"\x01n\0\x01\0\0\0",
+    b"\0\0\0\0\0\0\0\0",
+    b"\x02\0\0\0",
+    b"\x09\0\0\0",
+    b"\x0a\0\0\0\0\0\0\0\x01\0\0\0\0\0\0\0",
+    b"\x02\0\0\0\x01\0\0\0\0\0\0\0\0\0\0\0",
+    b"\x0b\0\x01\0\0\0\0\0\0\0\0\0\0\0\0\0",
+    b"\x02\0\0\0\0\0\0\0\0\0\0\0\0\0\0\0",
+    b"\x01\0\x01\0\x01\0\0\0\0\0\0\0\0\0\0\0",
+    b"\x06\x01\x02\0\0\0\0\0\0\0\0\0\0\0\0\0",
+    b"\x03\0\x01\0\0\0\0\0\0\0\0\0\0\0\0\0",
+    b"\x0e\0\0\0\0\0\0\0\0\0\0\0\0\0\0\0",
+    b"\x0f\0\0\0\0\0\0\0\0\0\0\0\0\0\0\0",
+    b"",
+];
+
+/// What a call leaves.
+#[derive(Drop)]
+struct Left {
+    status: Status,
+    out: MemSink,
+    err: MemSink,
+}
+
+/// The room of the sinks, their puts that fail, and the load that fails.
+#[derive(Drop)]
+struct Fails {
+    room: usize,
+    out: Option<PutFail>,
+    err: Option<PutFail>,
+    load: Option<u64>,
+}
+
+const NONE: Fails = Fails {
+    room: 1000,
+    out: None,
+    err: None,
+    load: None,
+};
+
+const COMPILE: [&str; 3] = ["compile", "p", "t"];
+
+fn sink(alloc: Global, room: usize, fail: Option<PutFail>) -> Result<MemSink, Fail> {
+    let mut fails = Vec::new(alloc);
+    if let Some(fail) = fail {
+        fails.push(fail)?;
+    }
+    Ok(MemSink::new(alloc, room, fails).map_err(|_| "memory")?)
+}
+
+/// Runs the words over the files `p` and `t`.
+fn run(
+    alloc: Global,
+    words: &[&str],
+    (program, target): (&[u8], &[u8]),
+    fails: Fails,
+) -> Result<Left, Fail> {
+    let mut texts = Vec::new(alloc);
+    for word in words {
+        texts.push(String::from_str(alloc, *word)?)?;
+    }
+    let files = vec![in alloc;
+        MemFile {
+            name: String::from_str(alloc, "p")?,
+            bytes: Vec::from_slice(alloc, program)?
+        },
+        MemFile {
+            name: String::from_str(alloc, "t")?,
+            bytes: Vec::from_slice(alloc, target)?
+        },
+    ]?;
+    let mut failing = Vec::new(alloc);
+    if let Some(load) = fails.load {
+        failing.push(load)?;
+    }
+    let mut shelf = MemShelf::new(alloc, files, failing);
+    let mut out = sink(alloc, fails.room, fails.out)?;
+    let mut err = sink(alloc, fails.room, fails.err)?;
+    let status = tcel(alloc, &texts, &mut shelf, &mut out, &mut err);
+    Ok(Left { status, out, err })
+}
+
+/// Compares what a call of `compile` leaves.
+fn compare(
+    rt: &(impl Abort + AllocGlobal),
+    files: (&[u8], &[u8]),
+    fails: Fails,
+    (status, code): (Status, u8),
+    (out, err): (&[u8], &[u8]),
+) -> Result<(), Fail> {
+    let left = run(rt.alloc(), &COMPILE, files, fails)?;
+    assert_eq!(rt; left.status, status);
+    assert_eq!(rt; left.status.code(), code);
+    assert_eq!(rt; left.out.bytes(), out);
+    assert_eq!(rt; left.err.bytes(), err);
+    Ok(())
+}
+
+fn echo_image(alloc: Global) -> Result<Vec<u8>, AllocError> {
+    let mut image = Vec::new(alloc);
+    for part in ECHO_IMAGE {
+        image.extend_from_slice(part)?;
+    }
+    Ok(image)
+}
+
+/// `ECHO` with another period.
+fn echo_every(alloc: Global, period: &str) -> Result<String, AllocError> {
+    format!(in alloc;
+        "task t priority 1 {{\n  input s;\n  output o;\n  state int n;\n  local int x;\n  every {period} {{\n    receive x from s;\n    send x to o;\n    n := n + 1;\n  }}\n}}\n"
+    )
+}
+
+#[test]
+fn compiles_the_example(rt: HostRuntime) -> Result<(), Fail> {
+    let image = echo_image(rt.alloc())?;
+    assert_eq!(rt; image.len(), 256);
+    compare(&rt, (ECHO, UNIT), NONE, (Status::Ok, 0), (&image, b""))?;
+    let cut = PutFail { call: 1, taken: 4 };
+    let fails = Fails {
+        out: Some(cut),
+        ..NONE
+    };
+    compare(
+        &rt,
+        (ECHO, UNIT),
+        fails,
+        (Status::WriteFault, 6),
+        (b"TCEL", b"write fault\n"),
+    )
+}
+
+#[test]
+fn bounds_the_cycles_by_the_period(rt: HostRuntime) -> Result<(), Fail> {
+    let alloc = rt.alloc();
+    let nine = run(
+        alloc,
+        &COMPILE,
+        (echo_every(alloc, "9")?.as_bytes(), UNIT),
+        NONE,
+    )?;
+    assert_eq!(rt; nine.status, Status::Ok);
+    let status = Status::Overload {
+        demand: 9,
+        hyper: 8,
+    };
+    let line = b"rejected: overload demand 9 hyperperiod 8\n";
+    let eight = echo_every(alloc, "8")?;
+    compare(
+        &rt,
+        (eight.as_bytes(), UNIT),
+        NONE,
+        (status, 1),
+        (b"", line),
+    )
+}
+
+#[test]
+fn refuses_files(rt: HostRuntime) -> Result<(), Fail> {
+    let alloc = rt.alloc();
+    let mut longer = Vec::from_slice(alloc, ECHO)?;
+    longer.push(b'\n').map_err(|_| "memory")?;
+    let (first, second) = (Status::Beyond { word: 1 }, Status::Beyond { word: 2 });
+    compare(
+        &rt,
+        (&longer, UNIT),
+        NONE,
+        (first, 20),
+        (b"", b"beyond: p\n"),
+    )?;
+    compare(
+        &rt,
+        (ECHO, b"const = 1\n"),
+        NONE,
+        (second, 20),
+        (b"", b"beyond: t\n"),
+    )?;
+    let (first, second) = (Status::ReadFault { word: 1 }, Status::ReadFault { word: 2 });
+    let fails = Fails {
+        load: Some(1),
+        ..NONE
+    };
+    compare(
+        &rt,
+        (ECHO, UNIT),
+        fails,
+        (first, 5),
+        (b"", b"read fault: p\n"),
+    )?;
+    let fails = Fails {
+        load: Some(2),
+        ..NONE
+    };
+    compare(
+        &rt,
+        (ECHO, UNIT),
+        fails,
+        (second, 5),
+        (b"", b"read fault: t\n"),
+    )?;
+    let long = vec![in alloc; b' '; 65_537]?;
+    let status = Status::Limit(LimitFault::Bytes {
+        word: 2,
+        limit: 65_536,
+    });
+    let line = b"limit: bytes of t above 65536\n";
+    compare(&rt, (ECHO, &long), NONE, (status, 3), (b"", line))
+}
+
+#[test]
+fn refuses_words(rt: HostRuntime) -> Result<(), Fail> {
+    let line = b"words: no command has this form\n".as_slice();
+    let wrong: [&[&str]; 4] = [
+        &[],
+        &["compile", "p"],
+        &["compile", "p", "t", "t"],
+        &["run", "p", "t"],
+    ];
+    for words in wrong {
+        let left = run(rt.alloc(), words, (ECHO, UNIT), NONE)?;
+        assert_eq!(rt; left.status, Status::Words);
+        assert_eq!(rt; left.status.code(), 4);
+        assert_eq!(rt; left.err.bytes(), line);
+    }
+    let cut = PutFail { call: 1, taken: 3 };
+    let left = run(
+        rt.alloc(),
+        &[],
+        (ECHO, UNIT),
+        Fails {
+            err: Some(cut),
+            ..NONE
+        },
+    )?;
+    assert_eq!(rt; left.status, Status::Words);
+    assert_eq!(rt; left.err.bytes(), b"wor".as_slice());
+    Ok(())
+}
+
+#[test]
+fn refuses_each_prefix(rt: HostRuntime) -> Result<(), Fail> {
+    for end in 0..ECHO.len() {
+        let left = run(rt.alloc(), &COMPILE, (&ECHO[..end], UNIT), NONE)?;
+        assert_eq!(rt; left.status, Status::Beyond { word: 1 }, "{end}");
+    }
+    Ok(())
+}
+
+/// A program of this head, declarations and statements.
+fn program(alloc: Global, (head, decls, body): (&str, &str, &str)) -> Result<String, AllocError> {
+    format!(in alloc; "task {head} {{\n{decls}  every 10000000 {{\n{body}  }}\n}}\n")
+}
+
+#[test]
+fn accepts_plain_texts(rt: HostRuntime) -> Result<(), Fail> {
+    let alloc = rt.alloc();
+    let mut many = String::new(alloc);
+    for number in 0..256u32 {
+        many.push_str(format!(in alloc; "  state int v{number};\n")?.as_str())?;
+    }
+    let all = "  input a;\n  output b;\n  state int c;\n  local int d;\n";
+    let rows = [
+        ("t priority 1", "", ""),
+        ("t priority 1000", "", ""),
+        ("abcdefghijklmnopqrstuvwxyz_01234 priority 7", "", ""),
+        ("t priority 1", "  input a;\n", ""),
+        ("t priority 1", "  output a;\n", ""),
+        ("t priority 1", "  state int a;\n", ""),
+        ("t priority 1", "  local int a;\n", ""),
+        (
+            "t priority 1",
+            "  local int a;\n  state int t;\n  input x;\n  input y;\n",
+            "",
+        ),
+        ("t priority 1", many.as_str(), "    v255 := v0;\n"),
+        ("t priority 1", all, "    c := 0;\n"),
+        ("t priority 1", all, "    d := 9223372036854775807;\n"),
+        ("t priority 1", all, "    c := d;\n"),
+        ("t priority 1", all, "    c := c + d;\n"),
+        ("t priority 1", all, "    c := 1 - d;\n"),
+        ("t priority 1", all, "    d := d - 0;\n"),
+        ("t priority 1", all, "    d := 2 + 3;\n"),
+        (
+            "t priority 1",
+            all,
+            "    receive c from a;\n    receive d from a;\n",
+        ),
+        ("t priority 1", all, "    send 5 to b;\n    send d to b;\n"),
+        ("t priority 1", all, "    send c + 1 to b;\n"),
+        (
+            "t priority 1",
+            all,
+            "    send 9223372036854775807 - d to b;\n",
+        ),
+    ];
+    for row in rows {
+        let text = program(alloc, row)?;
+        let left = run(
+            alloc,
+            &COMPILE,
+            (text.as_bytes(), UNIT),
+            Fails {
+                room: 100_000,
+                ..NONE
+            },
+        )?;
+        assert_eq!(rt; left.status, Status::Ok, "{text}");
+    }
+    Ok(())
+}
