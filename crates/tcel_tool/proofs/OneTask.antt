@@ -22,7 +22,7 @@ own_period : (plan : Plan) (hyper : ℕ) → 0 < plan.period → IsHyperperiod (
 own_period plan hyper positive h =
     let multiple : (k : ℕ) × (hyper ≡ k * plan.period) = All-head (λ (p : Plan). (k : ℕ) × (hyper ≡ k * p.period)) plan [] h.common in
     let once : IsCommonMultiple (plan ∷ []) plan.period =
-        All-cons (λ (p : Plan). (k : ℕ) × (plan.period ≡ k * p.period)) plan [] (1, omega arith) (All-nil (λ (p : Plan). (k : ℕ) × (plan.period ≡ k * p.period))) in
+    All-cons (λ (p : Plan). (k : ℕ) × (plan.period ≡ k * p.period)) plan [] (1, omega arith) (All-nil (λ (p : Plan). (k : ℕ) × (plan.period ≡ k * p.period))) in
     omega (arith, h.least plan.period positive once, at_least multiple.0 plan.period hyper h.positive multiple.1)
 
 -- in it one frame is released
