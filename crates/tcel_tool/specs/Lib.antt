@@ -12,3 +12,4 @@ pub mod PlainTree
 pub mod StraightPlan
 pub mod Walks
 pub mod WholePlan
+pub mod ExitStatus

@@ -1,4 +1,5 @@
 ghost use Rattle.std.specs.Prelude.{◌≡◌};
+ghost use Rattle.tcel_tool.specs.ExitStatus.{exit_status};
 ghost use Rattle.tcel_tool.specs.declared.status.Status.TheVariants.{NoMemory as memory};
 
 use tcel_num::NoMemory;
@@ -30,7 +31,9 @@ pub enum LimitFault {
 
 impl Status {
     /// The exit status.
-    pub fn code(&self) -> u8 {
+    pub fn code(&self) -> u8
+        ensures { result ≡ exit_status self.now }
+    {
         match self {
             Status::Ok => 0,
             Status::Overload { .. } => 1,
