@@ -1,6 +1,6 @@
 use super::*;
 use std::test::Fail;
-use tcel_image::{decode, in_range};
+use tcel_image::{ImageFail, decode, encode, in_range};
 
 /// A task `t` that hands each input on and counts its frames, with unit costs.
 const COUNTER: [u8; 256] = [
@@ -66,5 +66,30 @@ fn a_valid_image(rt: HostRuntime) -> Result<(), Fail> {
         assert_eq!(rt; row.inputs.len(), 1);
     }
     assert_eq!(rt; rows.len(), 1);
+    Ok(())
+}
+
+/// Every byte of the image set to each of four values: the copy is refused, or spelled again as it is.
+#[test]
+fn changed_bytes(rt: HostRuntime) -> Result<(), Fail> {
+    for place in 0..COUNTER.len() {
+        for byte in [0, 1, 127, 255] {
+            let mut copy = COUNTER;
+            if let Some(slot) = copy.get_mut(place) {
+                *slot = byte;
+            }
+            let image = match decode(rt.alloc(), &copy) {
+                Ok(image) => image,
+                Err(ImageFail::NoMemory) => return Err(Fail::new("memory")),
+                Err(_) => continue,
+            };
+            assert!(rt; in_range(&image));
+            let Ok(ready) = verify(image) else {
+                continue;
+            };
+            let bytes = encode(rt.alloc(), ready.image())?;
+            assert_eq!(rt; bytes.as_slice(), copy.as_slice(), "byte {place} is {byte}");
+        }
+    }
     Ok(())
 }
