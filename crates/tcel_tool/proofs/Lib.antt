@@ -24,3 +24,5 @@ pub mod Refusals
 pub mod StraightPlans
 pub mod OneTask
 pub mod Kept
+pub mod RunLines
+pub mod RunWords

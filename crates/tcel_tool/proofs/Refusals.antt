@@ -28,6 +28,10 @@ refused_program program target told old new (statuses.Limit (limits.Bytes w l)) 
       adds = h.2;
       cause = inl (h.0, subst (λ n. IfSome (told program) (λ bytes. n < length bytes)) (sym h.1) h.3);
     }
+refused_program program target told old new (statuses.Limit (limits.Count kind value)) h = absurd h
+refused_program program target told old new (statuses.Image fail) h = absurd h
+refused_program program target told old new (statuses.Flaw flaw) h = absurd h
+refused_program program target told old new (statuses.Script fail) h = absurd h
 refused_program program target told old new statuses.Words h = absurd h
 refused_program program target told old new (statuses.ReadFault w) h =
     record {
@@ -70,6 +74,10 @@ refused_target program target told later old middle new tree (statuses.Limit (li
       adds = two program target (program_load program Done) (target_load target TooLong) old middle new first h.2;
       cause = inr (h.0, subst (λ t. IfSome t (λ bytes. l < length bytes)) (same target) (subst (λ n. IfSome (later target) (λ bytes. n < length bytes)) (sym h.1) h.3));
     }
+refused_target program target told later old middle new tree (statuses.Limit (limits.Count kind value)) first same accepts h = absurd h
+refused_target program target told later old middle new tree (statuses.Image fail) first same accepts h = absurd h
+refused_target program target told later old middle new tree (statuses.Flaw flaw) first same accepts h = absurd h
+refused_target program target told later old middle new tree (statuses.Script fail) first same accepts h = absurd h
 refused_target program target told later old middle new tree statuses.Words first same accepts h = absurd h
 refused_target program target told later old middle new tree (statuses.ReadFault w) first same accepts h =
     record {
@@ -170,6 +178,10 @@ pub cause_of : (program target : Option (List ℕ)) (All Some_of : List ℕ → 
 cause_of program target All Some_of statuses.Ok h = absurd h.2
 cause_of program target All Some_of (statuses.Overload cycles hyper) h = h
 cause_of program target All Some_of (statuses.Limit (limits.Bytes w l)) h = h
+cause_of program target All Some_of (statuses.Limit (limits.Count kind value)) h = h
+cause_of program target All Some_of (statuses.Image fail) h = h
+cause_of program target All Some_of (statuses.Flaw flaw) h = h
+cause_of program target All Some_of (statuses.Script fail) h = h
 cause_of program target All Some_of statuses.Words h = h
 cause_of program target All Some_of (statuses.ReadFault w) h = h
 cause_of program target All Some_of statuses.WriteFault h = absurd h.2

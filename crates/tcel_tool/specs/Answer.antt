@@ -56,11 +56,15 @@ abbrev pub AreLoads : List ℕ → List ℕ → Status → List Load → Type 0
 AreLoads program target statuses.Ok loads = loads ≡ both_loads program target
 AreLoads program target (statuses.Overload cycles hyper) loads = loads ≡ both_loads program target
 AreLoads program target (statuses.Limit (limits.Bytes word limit)) loads = EndWith TooLong program target word limit loads
+AreLoads program target (statuses.Limit (limits.Count kind value)) loads = ⊥
 AreLoads program target statuses.Words loads = ⊥
 AreLoads program target (statuses.ReadFault word) loads = (limit : ℕ) × EndWith Fault program target word limit loads
 AreLoads program target statuses.WriteFault loads = loads ≡ both_loads program target
 AreLoads program target statuses.NoMemory loads =
     (loads ≡ []) ⊎ (loads ≡ program_load program Done ∷ []) ⊎ (loads ≡ both_loads program target)
+AreLoads program target (statuses.Image fail) loads = ⊥
+AreLoads program target (statuses.Flaw flaw) loads = ⊥
+AreLoads program target (statuses.Script fail) loads = ⊥
 AreLoads program target (statuses.Beyond word) loads = (limit : ℕ) × EndWith Done program target word limit loads
 
 -- the loads that a call adds: none where the words have no form of a command

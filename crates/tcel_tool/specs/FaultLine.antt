@@ -2,10 +2,19 @@
 use Rattle.std.specs.Prelude.{ℕ, List, [], ◌∷◌, slice_index_or, codes}
 use Rattle.std.specs.List.{concat}
 use Rattle.std.specs.Fmt.{decimal}
+use Rattle.tcel_image.specs.declared.fault.ImageFail.{ImageFail}
+use Rattle.tcel_image.specs.declared.fault.ImageFail.TheVariants as fails
+use Rattle.tcel_image.specs.declared.flaw.Flaw.{Flaw}
+use Rattle.tcel_image.specs.declared.flaw.FlawKind.{FlawKind}
+use Rattle.tcel_image.specs.declared.flaw.FlawKind.TheVariants as flaws
+use Rattle.tcel_script.specs.declared.fail.ScriptFail.{ScriptFail}
+use Rattle.tcel_script.specs.declared.fail.ScriptFail.TheVariants as scripts
 use Rattle.tcel_tool.specs.declared.status.Status.{Status}
 use Rattle.tcel_tool.specs.declared.status.Status.TheVariants as statuses
 use Rattle.tcel_tool.specs.declared.status.LimitFault.{LimitFault}
 use Rattle.tcel_tool.specs.declared.status.LimitFault.TheVariants as limits
+use Rattle.tcel_tool.specs.declared.status.CountKind.{CountKind}
+use Rattle.tcel_tool.specs.declared.status.CountKind.TheVariants.{Ticks}
 
 -- the word of this number, or the empty text where there is none
 abbrev pub word_at : List (List ℕ) → ℕ → List ℕ
@@ -13,6 +22,36 @@ word_at words word = slice_index_or words word []
 
 abbrev pub limit_pieces : List (List ℕ) → LimitFault → List (List ℕ)
 limit_pieces words (limits.Bytes word limit) = codes "limit: bytes of " ∷ word_at words word ∷ codes " above " ∷ decimal limit ∷ codes "\n" ∷ []
+limit_pieces words (limits.Count Ticks value) = codes "limit: ticks " ∷ decimal value ∷ codes " above 10000000\n" ∷ []
+
+-- the fault of bytes that spell no image
+abbrev pub image_pieces : ImageFail → List (List ℕ)
+image_pieces fails.BadMagic = codes "image: bad magic\n" ∷ []
+image_pieces (fails.Short at) = codes "image: short at " ∷ decimal at ∷ codes "\n" ∷ []
+image_pieces (fails.BadField at) = codes "image: bad field at " ∷ decimal at ∷ codes "\n" ∷ []
+image_pieces (fails.Extra at) = codes "image: extra at " ∷ decimal at ∷ codes "\n" ∷ []
+image_pieces fails.NoMemory = codes "no memory\n" ∷ []
+
+abbrev pub flaw_text : FlawKind → List ℕ
+flaw_text flaws.BadPeriod = codes "bad period"
+flaw_text flaws.SameName = codes "same name"
+flaw_text flaws.JumpOut = codes "jump out"
+flaw_text flaws.BadCell = codes "bad cell"
+flaw_text flaws.BadPort = codes "bad port"
+flaw_text flaws.BadDepth = codes "bad depth"
+flaw_text flaws.FallsOff = codes "falls off"
+
+-- a flaw of an image, with its task and place
+abbrev pub flaw_pieces : Flaw → List (List ℕ)
+flaw_pieces flaw = codes "image: " ∷ flaw_text flaw.kind ∷ codes " task " ∷ decimal flaw.task ∷ codes " pc " ∷ decimal flaw.pc ∷ codes "\n" ∷ []
+
+-- the first faulty line of a script
+abbrev pub script_pieces : ScriptFail → List (List ℕ)
+script_pieces (scripts.BadLine line) = codes "script " ∷ decimal line ∷ codes ": bad line\n" ∷ []
+script_pieces (scripts.NoPort line) = codes "script " ∷ decimal line ∷ codes ": no port\n" ∷ []
+script_pieces (scripts.PortTwice line) = codes "script " ∷ decimal line ∷ codes ": port twice\n" ∷ []
+script_pieces (scripts.Number line) = codes "script " ∷ decimal line ∷ codes ": number\n" ∷ []
+script_pieces scripts.NoMemory = codes "no memory\n" ∷ []
 
 abbrev pub fault_pieces : List (List ℕ) → Status → List (List ℕ)
 fault_pieces words statuses.Ok = []
@@ -23,6 +62,9 @@ fault_pieces words statuses.Words = codes "words: no command has this form\n" �
 fault_pieces words (statuses.ReadFault word) = codes "read fault: " ∷ word_at words word ∷ codes "\n" ∷ []
 fault_pieces words statuses.WriteFault = codes "write fault\n" ∷ []
 fault_pieces words statuses.NoMemory = codes "no memory\n" ∷ []
+fault_pieces words (statuses.Image fail) = image_pieces fail
+fault_pieces words (statuses.Flaw flaw) = flaw_pieces flaw
+fault_pieces words (statuses.Script fail) = script_pieces fail
 fault_pieces words (statuses.Beyond word) = codes "beyond: " ∷ word_at words word ∷ codes "\n" ∷ []
 
 -- the whole line, and nothing after Ok

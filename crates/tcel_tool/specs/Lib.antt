@@ -7,8 +7,10 @@ pub mod Headline
 pub mod FaultLine
 pub mod Hyperperiod
 pub mod Layout
+pub mod Lines
 pub mod PlainLimits
 pub mod PlainTree
+pub mod RunAnswer
 pub mod StraightPlan
 pub mod Walks
 pub mod WholePlan

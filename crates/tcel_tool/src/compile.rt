@@ -1,4 +1,4 @@
-ghost use Rattle.std.specs.Prelude.{◌≡◌, ◌+◌, ◌<◌, ◌≤◌, ℕ, List, [], ◌∷◌, IfOk, IfErr, IfSome, OnOk, OnErr, IsTrue, ◌⊎◌};
+ghost use Rattle.std.specs.Prelude.{◌≡◌, ◌+◌, ◌<◌, ◌≤◌, ℕ, List, [], ◌∷◌, IfOk, IfErr, IfSome, OnOk, OnErr, IsTrue, ◌⊎◌, length};
 ghost use Rattle.tcel_io.specs.Count.{Rose, PutsAtMost};
 ghost use Rattle.tcel_io.specs.Load.{AddsLoads, Load, entries_of};
 ghost use Rattle.tcel_io.specs.Reach.{ReachesWithin};
@@ -164,7 +164,7 @@ fn load_target<H: Shelf>(alloc: Global, target: &str, shelf: &mut H) -> Result<(
 }
 
 /// The bytes of a file, which is that of this word.
-fn load<H: Shelf>(
+pub(crate) fn load<H: Shelf>(
     alloc: Global,
     name: &str,
     word: usize,
@@ -172,6 +172,7 @@ fn load<H: Shelf>(
     shelf: &mut H,
 ) -> Result<Vec<u8>, Status>
     ensures bytes { IfOk result (λ bytes. IfSome (H.told shelf.old name.now) (λ told. bytes.items ≡ told)) }
+    ensures short { IfOk result (λ bytes. length bytes.items ≤ limit) }
     ensures loads { OnOk result (AddsLoads (load_of name.now limit Done ∷ []) (H.loads shelf.old) (H.loads shelf.new)) }
     ensures told { TellsTheSame (H.told shelf.old) (H.told shelf.new) }
     ensures refusal { IfErr result (IsLoadRefusal name.now word limit (H.told shelf.old) (H.loads shelf.old) (H.loads shelf.new)) }

@@ -22,9 +22,11 @@ mod plain_check;
 mod plain_tree;
 mod plan;
 mod read;
+mod run;
 mod status;
 #[cfg(test)]
 mod tests;
+mod ticks;
 mod tool;
 
 fn main(rt: HostRuntime) -> ExitCode {

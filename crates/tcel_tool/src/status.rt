@@ -2,7 +2,9 @@ ghost use Rattle.std.specs.Prelude.{◌≡◌};
 ghost use Rattle.tcel_tool.specs.ExitStatus.{exit_status};
 ghost use Rattle.tcel_tool.specs.declared.status.Status.TheVariants.{NoMemory as memory};
 
+use tcel_image::{Flaw, ImageFail};
 use tcel_num::NoMemory;
+use tcel_script::ScriptFail;
 
 /// How a call of `tcel` ended (docs/commands.md). `word` is the number of a word of the command line, where the command itself is 0.
 #[derive(Clone, Copy, Debug, PartialEq, Eq)]
@@ -18,6 +20,12 @@ pub enum Status {
     /// The output couldn't be written.
     WriteFault,
     NoMemory,
+    /// The bytes of the image file spell no image. Want of memory is `NoMemory`.
+    Image(ImageFail),
+    /// The image isn't valid.
+    Flaw(Flaw),
+    /// The script has a faulty line. Want of memory is `NoMemory`.
+    Script(ScriptFail),
     /// The file of this word has a form that isn't built yet.
     Beyond { word: usize },
 }
@@ -27,6 +35,14 @@ pub enum Status {
 pub enum LimitFault {
     /// The file of this word has more bytes than the limit.
     Bytes { word: usize, limit: usize },
+    /// A number on the command line is above the greatest one allowed.
+    Count { kind: CountKind, value: u64 },
+}
+
+/// What a number on the command line counts.
+#[derive(Clone, Copy, Debug, PartialEq, Eq)]
+pub enum CountKind {
+    Ticks,
 }
 
 impl Status {
@@ -42,6 +58,8 @@ impl Status {
             Status::ReadFault { .. } => 5,
             Status::WriteFault => 6,
             Status::NoMemory => 7,
+            Status::Image(_) | Status::Flaw(_) => 9,
+            Status::Script(_) => 10,
             Status::Beyond { .. } => 20,
         }
     }

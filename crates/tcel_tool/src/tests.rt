@@ -335,3 +335,178 @@ fn accepts_plain_texts(rt: HostRuntime) -> Result<(), Fail> {
     }
     Ok(())
 }
+
+const SCRIPT: &[u8] = b"t s 5 6\n";
+
+/// The lines of 20 ticks of the example.
+const LINES: [&str; 8] = [
+    "1 t 0 receive s 5\n",
+    "3 t 0 send o 5\n",
+    "8 t 0 first\n",
+    "9 t 0 end n=1\n",
+    "11 t 1 receive s 6\n",
+    "13 t 1 send o 6\n",
+    "18 t 1 first\n",
+    "19 t 1 end n=2\n",
+];
+
+/// Runs the example for so many ticks.
+fn run_example(alloc: Global, ticks: &str, fails: Fails) -> Result<Left, Fail> {
+    let image = echo_image(alloc)?;
+    run(alloc, &["run", "p", "t", ticks], (&image, SCRIPT), fails)
+}
+
+/// The first so many lines, and what follows them.
+fn first_lines(alloc: Global, count: usize, more: &str) -> Result<String, AllocError> {
+    let mut text = String::new(alloc);
+    for line in LINES.iter().take(count) {
+        text.push_str(*line)?;
+    }
+    text.push_str(more)?;
+    Ok(text)
+}
+
+#[test]
+fn runs_the_example(rt: HostRuntime) -> Result<(), Fail> {
+    let rows = [
+        ("0", 0),
+        ("1", 1),
+        ("2", 1),
+        ("3", 2),
+        ("000000000000000010", 4),
+        ("20", 8),
+    ];
+    for (ticks, count) in rows {
+        let left = run_example(rt.alloc(), ticks, NONE)?;
+        assert_eq!(rt; left.status, Status::Ok);
+        assert_eq!(rt;
+            left.out.bytes(),
+            first_lines(rt.alloc(), count, "")?.as_bytes()
+        );
+        assert_eq!(rt; left.err.bytes(), b"".as_slice());
+    }
+    Ok(())
+}
+
+#[test]
+fn stops_a_run_at_a_fault(rt: HostRuntime) -> Result<(), Fail> {
+    let rows = [
+        (1, 0, 0, ""),
+        (2, 0, 1, ""),
+        (3, 0, 2, ""),
+        (4, 0, 3, ""),
+        (3, 4, 2, "8 t "),
+    ];
+    for (call, taken, count, more) in rows {
+        let fails = Fails {
+            out: Some(PutFail { call, taken }),
+            ..NONE
+        };
+        let left = run_example(rt.alloc(), "10", fails)?;
+        assert_eq!(rt; left.status, Status::WriteFault);
+        assert_eq!(rt; left.status.code(), 6);
+        assert_eq!(rt;
+            left.out.bytes(),
+            first_lines(rt.alloc(), count, more)?.as_bytes()
+        );
+        assert_eq!(rt; left.err.bytes(), b"write fault\n".as_slice());
+    }
+    Ok(())
+}
+
+#[test]
+fn refuses_ticks(rt: HostRuntime) -> Result<(), Fail> {
+    let rows = [
+        ("10000001", 3, "limit: ticks 10000001 above 10000000\n"),
+        (
+            "999999999999999999",
+            3,
+            "limit: ticks 999999999999999999 above 10000000\n",
+        ),
+        (
+            "1000000000000000000",
+            4,
+            "words: no command has this form\n",
+        ),
+        ("", 4, "words: no command has this form\n"),
+        ("+1", 4, "words: no command has this form\n"),
+        ("1a", 4, "words: no command has this form\n"),
+    ];
+    for (ticks, code, line) in rows {
+        let fails = Fails {
+            load: Some(1),
+            ..NONE
+        };
+        let left = run_example(rt.alloc(), ticks, fails)?;
+        assert_eq!(rt; left.status.code(), code);
+        assert_eq!(rt; left.out.bytes(), b"".as_slice());
+        assert_eq!(rt; left.err.bytes(), line.as_bytes());
+    }
+    Ok(())
+}
+
+#[test]
+fn refuses_loads_of_a_run(rt: HostRuntime) -> Result<(), Fail> {
+    for (load, line) in [(1, "read fault: p\n"), (2, "read fault: t\n")] {
+        let fails = Fails {
+            load: Some(load),
+            ..NONE
+        };
+        let left = run_example(rt.alloc(), "10", fails)?;
+        assert_eq!(rt; left.status.code(), 5);
+        assert_eq!(rt; left.out.bytes(), b"".as_slice());
+        assert_eq!(rt; left.err.bytes(), line.as_bytes());
+    }
+    Ok(())
+}
+
+#[test]
+fn refuses_images(rt: HostRuntime) -> Result<(), Fail> {
+    let rows: [(&[(usize, u8)], &str); 10] = [
+        (&[(0, b't')], "image: bad magic\n"),
+        (&[(8, 2)], "image: short at 256\n"),
+        (&[(4, 3)], "image: bad field at 4\n"),
+        (&[(108, 8)], "image: extra at 240\n"),
+        (&[(74, 0)], "image: bad period task 0 pc 0\n"),
+        (&[(86, b's')], "image: same name task 0 pc 0\n"),
+        (&[(224, 7), (228, 9)], "image: jump out task 0 pc 7\n"),
+        (&[(132, 2)], "image: bad cell task 0 pc 1\n"),
+        (&[(146, 0)], "image: bad depth task 0 pc 1\n"),
+        (&[(240, 14)], "image: falls off task 0 pc 8\n"),
+    ];
+    for (edits, line) in rows {
+        let mut image = echo_image(rt.alloc())?;
+        for (at, byte) in edits {
+            *image.get_mut(*at).ok_or("place")? = *byte;
+        }
+        let left = run(rt.alloc(), &["run", "p", "t", "10"], (&image, b"u\n"), NONE)?;
+        assert_eq!(rt; left.status.code(), 9);
+        assert_eq!(rt; left.out.bytes(), b"".as_slice());
+        assert_eq!(rt; left.err.bytes(), line.as_bytes());
+    }
+    Ok(())
+}
+
+#[test]
+fn refuses_scripts(rt: HostRuntime) -> Result<(), Fail> {
+    let rows = [
+        ("t\n", "script 1: bad line\n"),
+        ("u s 1\n", "script 1: no port\n"),
+        ("t o 1\n", "script 1: no port\n"),
+        ("t s 1\nt s 2\n", "script 2: port twice\n"),
+        ("t s x\n", "script 1: number\n"),
+    ];
+    let image = echo_image(rt.alloc())?;
+    for (script, line) in rows {
+        let left = run(
+            rt.alloc(),
+            &["run", "p", "t", "10"],
+            (&image, script.as_bytes()),
+            NONE,
+        )?;
+        assert_eq!(rt; left.status.code(), 10);
+        assert_eq!(rt; left.out.bytes(), b"".as_slice());
+        assert_eq!(rt; left.err.bytes(), line.as_bytes());
+    }
+    Ok(())
+}

@@ -1,4 +1,4 @@
-ghost use Rattle.std.specs.Prelude.{◌≡◌, ◌↔◌, ◌⊎◌, ℕ, List, ◌++◌, map, length, string_bytes, IsTrue};
+ghost use Rattle.std.specs.Prelude.{◌≡◌, ◌↔◌, ◌⊎◌, ℕ, List, ◌++◌, map, length, string_bytes, IsTrue, IfSome, Some};
 ghost use Rattle.tcel_io.specs.Count.{Rose, PutsAtMost};
 ghost use Rattle.tcel_io.specs.Load.{AddsLoads, Load};
 ghost use Rattle.tcel_io.specs.Reach.{ReachesWithin};
@@ -7,11 +7,14 @@ ghost use Rattle.tcel_image.specs.Examples.{unit_costs};
 ghost use Rattle.tcel_tool.specs.Answer.{Answers, Accepts, AreLoadsOf, IsCompile, image_bytes, writes};
 ghost use Rattle.tcel_tool.specs.FaultLine.{fault_line, fault_pieces, word_at};
 ghost use Rattle.tcel_tool.specs.Headline.{KeepsItsPromise};
+ghost use Rattle.tcel_tool.specs.RunAnswer.{AreRunLoads, HaveNoForm, IsRun, RunAnswers};
 ghost use Rattle.tcel_tool.specs.declared.plain_tree.PlainTree.{PlainTree};
 
 use crate::compile::compile;
 use crate::fault_line::put_fault_line;
+use crate::run::run;
 use crate::status::Status;
+use crate::ticks::ticks_in;
 use std::alloc::Global;
 use tcel_io::{Shelf, Sink};
 
@@ -23,23 +26,34 @@ pub fn tcel<H: Shelf, K: Sink>(
     out: &mut K,
     err: &mut K,
 ) -> Status
-    ensures words { (result ≡ Status.Words) ↔ (IsCompile (map string_bytes words.now) → ⊥) }
-    ensures loads { (added : List Load) × AreLoadsOf (map string_bytes words.now) result added
+    ensures words { (result ≡ Status.Words) ↔ HaveNoForm (map string_bytes words.now) }
+    ensures loads { IsCompile (map string_bytes words.now) → (added : List Load) × AreLoadsOf (map string_bytes words.now) result added
         × AddsLoads added (H.loads shelf.old) (H.loads shelf.new) }
-    ensures answer { let texts = map string_bytes words.now in
+    ensures answer { let texts = map string_bytes words.now in IsCompile texts →
         Answers (H.told shelf.old (word_at texts 1)) (H.told shelf.old (word_at texts 2))
         (λ text. Takes text (K.taken out.old) (K.taken out.new))
         (λ text. TakesPrefix text (K.taken out.old) (K.taken out.new)
         × ReachesWithin text (K.taken out.old) (K.reach out.old) (K.reach out.new)) result }
 
+    // The command `run`.
+    ensures run_loads { let texts = map string_bytes words.now in (ticks : ℕ) → IsRun texts ticks
+        → (added : List Load) × AreRunLoads (word_at texts 1) (word_at texts 2) result added × AddsLoads added (H.loads shelf.old) (H.loads shelf.new) }
+    ensures run_answer { let texts = map string_bytes words.now in (ticks : ℕ) → IsRun texts ticks
+        → RunAnswers (H.told shelf.old (word_at texts 1)) (H.told shelf.old (word_at texts 2)) ticks
+        (λ text. Takes text (K.taken out.old) (K.taken out.new))
+        (λ text. TakesPrefix text (K.taken out.old) (K.taken out.new)
+        × ReachesWithin text (K.taken out.old) (K.reach out.old) (K.reach out.new)) result }
+    ensures no_loads { result ≡ Status.Words → H.loads shelf.new ≡ H.loads shelf.old }
+
     // After Ok out took the image of the program's set, and every run of this image meets the program.
-    ensures headline { result ≡ Status.Ok → (tree : PlainTree) × Accepts (H.told shelf.old (word_at (map string_bytes words.now) 1)) tree
+    ensures headline { IsCompile (map string_bytes words.now) → result ≡ Status.Ok → (tree : PlainTree) × Accepts (H.told shelf.old (word_at (map string_bytes words.now) 1)) tree
         × Takes (image_bytes tree) (K.taken out.old) (K.taken out.new) × KeepsItsPromise tree unit_costs }
 
     // What out took, and how often.
     ensures untouched { IsTrue (writes result) ⊎ (out.new ≡ out.old) }
     ensures fault { result ≡ Status.WriteFault → Rose (K.faults out.old) (K.faults out.new) }
-    ensures puts { PutsAtMost 1 (K.puts out.old) (K.puts out.new) }
+    ensures puts { IsCompile (map string_bytes words.now) → PutsAtMost 1 (K.puts out.old) (K.puts out.new) }
+    ensures run_puts { (ticks : ℕ) → IsRun (map string_bytes words.now) ticks → PutsAtMost ticks (K.puts out.old) (K.puts out.new) }
 
     // The fault line, whole unless err has a fault.
     ensures line { Rose (K.faults err.old) (K.faults err.new)
@@ -53,23 +67,65 @@ pub fn tcel<H: Shelf, K: Sink>(
 }
 
 fn answer<H: Shelf, K: Sink>(alloc: Global, words: &[String], shelf: &mut H, out: &mut K) -> Status
-    ensures words { (result ≡ Status.Words) ↔ (IsCompile (map string_bytes words.now) → ⊥) }
-    ensures loads { (added : List Load) × AreLoadsOf (map string_bytes words.now) result added
+    ensures words { (result ≡ Status.Words) ↔ HaveNoForm (map string_bytes words.now) }
+    ensures loads { IsCompile (map string_bytes words.now) → (added : List Load) × AreLoadsOf (map string_bytes words.now) result added
         × AddsLoads added (H.loads shelf.old) (H.loads shelf.new) }
-    ensures answer { let texts = map string_bytes words.now in
+    ensures answer { let texts = map string_bytes words.now in IsCompile texts →
         Answers (H.told shelf.old (word_at texts 1)) (H.told shelf.old (word_at texts 2))
         (λ text. Takes text (K.taken out.old) (K.taken out.new))
         (λ text. TakesPrefix text (K.taken out.old) (K.taken out.new)
         × ReachesWithin text (K.taken out.old) (K.reach out.old) (K.reach out.new)) result }
+    ensures run_loads { let texts = map string_bytes words.now in (ticks : ℕ) → IsRun texts ticks
+        → (added : List Load) × AreRunLoads (word_at texts 1) (word_at texts 2) result added × AddsLoads added (H.loads shelf.old) (H.loads shelf.new) }
+    ensures run_answer { let texts = map string_bytes words.now in (ticks : ℕ) → IsRun texts ticks
+        → RunAnswers (H.told shelf.old (word_at texts 1)) (H.told shelf.old (word_at texts 2)) ticks
+        (λ text. Takes text (K.taken out.old) (K.taken out.new))
+        (λ text. TakesPrefix text (K.taken out.old) (K.taken out.new)
+        × ReachesWithin text (K.taken out.old) (K.reach out.old) (K.reach out.new)) result }
+    ensures no_loads { result ≡ Status.Words → H.loads shelf.new ≡ H.loads shelf.old }
     ensures untouched { IsTrue (writes result) ⊎ (out.new ≡ out.old) }
     ensures fault { result ≡ Status.WriteFault → Rose (K.faults out.old) (K.faults out.new) }
-    ensures puts { PutsAtMost 1 (K.puts out.old) (K.puts out.new) }
+    ensures puts { IsCompile (map string_bytes words.now) → PutsAtMost 1 (K.puts out.old) (K.puts out.new) }
+    ensures run_puts { (ticks : ℕ) → IsRun (map string_bytes words.now) ticks → PutsAtMost ticks (K.puts out.old) (K.puts out.new) }
 {
     if is_compile(words) {
         compile(alloc, words[1].as_str(), words[2].as_str(), shelf, out)
     } else {
-        Status::Words
+        run_of_words(alloc, words, shelf, out)
     }
+}
+
+/// Runs the command where it is `run`.
+fn run_of_words<H: Shelf, K: Sink>(
+    alloc: Global,
+    words: &[String],
+    shelf: &mut H,
+    out: &mut K,
+) -> Status
+    ensures words { (result ≡ Status.Words) ↔ ((ticks : ℕ) → IsRun (map string_bytes words.now) ticks → ⊥) }
+    ensures run_loads { let texts = map string_bytes words.now in (ticks : ℕ) → IsRun texts ticks
+        → (added : List Load) × AreRunLoads (word_at texts 1) (word_at texts 2) result added × AddsLoads added (H.loads shelf.old) (H.loads shelf.new) }
+    ensures run_answer { let texts = map string_bytes words.now in (ticks : ℕ) → IsRun texts ticks
+        → RunAnswers (H.told shelf.old (word_at texts 1)) (H.told shelf.old (word_at texts 2)) ticks
+        (λ text. Takes text (K.taken out.old) (K.taken out.new))
+        (λ text. TakesPrefix text (K.taken out.old) (K.taken out.new)
+        × ReachesWithin text (K.taken out.old) (K.reach out.old) (K.reach out.new)) result }
+    ensures no_loads { result ≡ Status.Words → H.loads shelf.new ≡ H.loads shelf.old }
+    ensures untouched { IsTrue (writes result) ⊎ (out.new ≡ out.old) }
+    ensures fault { result ≡ Status.WriteFault → Rose (K.faults out.old) (K.faults out.new) }
+    ensures run_puts { (ticks : ℕ) → IsRun (map string_bytes words.now) ticks → PutsAtMost ticks (K.puts out.old) (K.puts out.new) }
+{
+    let Some(ticks) = ticks_of(words) else {
+        return Status::Words;
+    };
+    run(
+        alloc,
+        words[1].as_str(),
+        words[2].as_str(),
+        ticks,
+        shelf,
+        out,
+    )
 }
 
 /// Whether the words are `compile` and two more.
@@ -78,6 +134,18 @@ fn is_compile(words: &[String]) -> bool
     ensures three { IsTrue result → length words.now ≡ 3 }
 {
     words.len() == 3 && is_word(&words[0], "compile")
+}
+
+/// The ticks, where the words are `run` and three more of which the last is a number.
+fn ticks_of(words: &[String]) -> Option<u64>
+    ensures exact { (ticks : ℕ) → (result ≡ Some ticks) ↔ IsRun (map string_bytes words.now) ticks }
+    ensures four { IfSome result (λ ticks. length words.now ≡ 4) }
+{
+    if words.len() == 4 && is_word(&words[0], "run") {
+        ticks_in(words[3].as_bytes())
+    } else {
+        None
+    }
 }
 
 fn is_word(word: &String, wanted: &str) -> bool

@@ -15,7 +15,7 @@ pub returns-in-Words-clause-whole : goal.returns-in-Words-clause-whole
 returns-in-Words-clause-whole g c = rw c.in-Words.is c.put_all-in-Words.ensures.whole
 
 pub returns-in-ReadFault-clause-whole : goal.returns-in-ReadFault-clause-whole
-returns-in-ReadFault-clause-whole g c = rw (c.in-ReadFault.is, ← c.word_at-in-ReadFault.ensures) c.put_all-in-ReadFault.ensures.whole
+returns-in-ReadFault-clause-whole g c = rw (c.in-ReadFault.is, ← c.word_at.ensures) c.put_all-in-ReadFault.ensures.whole
 
 pub returns-in-WriteFault-clause-whole : goal.returns-in-WriteFault-clause-whole
 returns-in-WriteFault-clause-whole g c = rw c.in-WriteFault.is c.put_all-in-WriteFault.ensures.whole

@@ -15,7 +15,8 @@ returns-then-is_compile-clause-loads g c =
     word_is string_bytes c.args.words.now 1 c.index-words-1.result (omega arith) (sym c.index-words-1.is) ∙ sym c.as_str.ensures.value in
     let target : word_at texts 2 ≡ c.as_str-then-is_compile.result.now =
     word_is string_bytes c.args.words.now 2 c.index-words-2.result (omega arith) (sym c.index-words-2.is) ∙ sym c.as_str-then-is_compile.ensures.value in
-    let done = c.compile.ensures.loads in (
+    let done = c.compile.ensures.loads in
+    λ _. (
       done.0,
       loads_of_words texts c.compile.result done.0
           (subst (λ p. AreLoads p (word_at texts 2) c.compile.result done.0) (sym program)
@@ -36,5 +37,6 @@ returns-then-is_compile-clause-answer g c =
     word_is string_bytes c.args.words.now 1 c.index-words-1.result (omega arith) (sym c.index-words-1.is) ∙ sym c.as_str.ensures.value in
     let target : word_at texts 2 ≡ c.as_str-then-is_compile.result.now =
     word_is string_bytes c.args.words.now 2 c.index-words-2.result (omega arith) (sym c.index-words-2.is) ∙ sym c.as_str-then-is_compile.ensures.value in
+    λ _.
     subst (λ p. Answers (told p) (told (word_at texts 2)) whole part c.compile.result) (sym program)
     (subst (λ t. Answers (told c.as_str.result.now) (told t) whole part c.compile.result) (sym target) c.compile.ensures.answer)

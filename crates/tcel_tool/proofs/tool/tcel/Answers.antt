@@ -22,9 +22,10 @@ returns-clause-line_prefix g c =
 pub returns-clause-headline : goal.returns-clause-headline
 returns-clause-headline g c =
     let texts = map string_bytes c.args.words.now in
+    λ h.
     kept
     (g.H.Shelf.told c.args.shelf.now (word_at texts 1)) (g.H.Shelf.told c.args.shelf.now (word_at texts 2))
     (λ text. Takes text (g.K.Sink.taken c.args.out.now) (g.K.Sink.taken c.answer-status.new.out))
     (λ text. TakesPrefix text (g.K.Sink.taken c.args.out.now) (g.K.Sink.taken c.answer-status.new.out)
     × ReachesWithin text (g.K.Sink.taken c.args.out.now) (g.K.Sink.reach c.args.out.now) (g.K.Sink.reach c.answer-status.new.out))
-    c.answer-status.result c.answer-status.ensures.answer
+    c.answer-status.result (c.answer-status.ensures.answer h)
