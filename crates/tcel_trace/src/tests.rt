@@ -1,7 +1,10 @@
 use super::*;
+use sqlite_items::Items;
+use std::alloc::Global;
 use std::test::Fail;
-use tcel_image::{decode, in_range};
+use tcel_image::{Costs, Image, ImageState, ImageTask, Instr, Line, StateKind, decode, in_range};
 use tcel_machine::{Entry, Machine, What};
+use tcel_num::{Name, Op};
 use tcel_script::read_script;
 use tcel_verify::verify;
 
@@ -89,6 +92,259 @@ fn lines_of_entries(rt: HostRuntime) -> Result<(), Fail> {
         };
         put_entry(&mut buffer, &machine, &entry);
         assert_eq!(rt; buffer.bytes(), line.as_bytes());
+    }
+    Ok(())
+}
+
+/// A task of an image as the tables below write it.
+#[derive(Clone, Copy)]
+struct Row {
+    name: &'static [u8],
+    period: u32,
+    inputs: &'static [&'static [u8]],
+    outputs: &'static [&'static [u8]],
+    states: &'static [(&'static [u8], StateKind, &'static [i64])],
+    cells: u32,
+    code: &'static [(u16, Instr)],
+}
+
+const EMPTY: Row = Row {
+    name: b"a",
+    period: 4,
+    inputs: &[],
+    outputs: &[],
+    states: &[],
+    cells: 0,
+    code: &[(0, Instr::Mark), (0, Instr::End)],
+};
+
+const RECEIVER: Row = Row {
+    name: b"b",
+    period: 6,
+    inputs: &[b"s"],
+    outputs: &[],
+    states: &[],
+    cells: 1,
+    code: &[(0, Instr::Receive(0, 0)), (0, Instr::Mark), (0, Instr::End)],
+};
+
+const HIGH: Row = Row {
+    name: b"hi",
+    period: 8,
+    inputs: &[],
+    outputs: &[b"o"],
+    states: &[],
+    cells: 0,
+    code: &[
+        (0, Instr::Const(1)),
+        (1, Instr::Send(0)),
+        (0, Instr::Mark),
+        (0, Instr::End),
+    ],
+};
+
+/// Its hold waits until 10 ticks after the release.
+const HOLDER: Row = Row {
+    name: b"lo",
+    period: 40,
+    inputs: &[],
+    outputs: &[b"o"],
+    states: &[],
+    cells: 1,
+    code: &[
+        (0, Instr::Const(1)),
+        (1, Instr::Put(0)),
+        (0, Instr::Hold(10)),
+        (0, Instr::Get(0)),
+        (1, Instr::Send(0)),
+        (0, Instr::Mark),
+        (0, Instr::End),
+    ],
+};
+
+const STUCK: Row = Row {
+    name: b"t",
+    period: 4,
+    inputs: &[],
+    outputs: &[],
+    states: &[],
+    cells: 0,
+    code: &[(0, Instr::Jump(0))],
+};
+
+/// Its frames take 9 ticks, more than its period.
+const LATE: Row = Row {
+    name: b"t",
+    period: 4,
+    inputs: &[b"s"],
+    outputs: &[b"o"],
+    states: &[(b"n", StateKind::Int, &[0])],
+    cells: 2,
+    code: &[
+        (0, Instr::Receive(0, 1)),
+        (0, Instr::Get(1)),
+        (1, Instr::Send(0)),
+        (0, Instr::Get(0)),
+        (1, Instr::Const(1)),
+        (2, Instr::Arith(Op::Add)),
+        (1, Instr::Put(0)),
+        (0, Instr::Mark),
+        (0, Instr::End),
+    ],
+};
+
+/// Its copy goes from the array's first two words to its last two.
+const SHIFTING: Row = Row {
+    name: b"t",
+    period: 100,
+    inputs: &[],
+    outputs: &[],
+    states: &[
+        (b"a", StateKind::Array, &[1, 2, 3]),
+        (b"b", StateKind::Bool, &[7]),
+    ],
+    cells: 4,
+    code: &[(0, Instr::Copy(0, 1, 2)), (0, Instr::Mark), (0, Instr::End)],
+};
+
+/// Tasks, a script, a number of ticks, and the whole trace, with unit costs.
+const TRACES: [(&[Row], &[u8], u32, &[&str]); 5] = [
+    // Two tasks, and nothing in the script.
+    (
+        &[EMPTY, RECEIVER],
+        b"",
+        12,
+        &[
+            "1 a 0 first\n",
+            "2 a 0 end\n",
+            "3 b 0 receive s 0\n",
+            "4 b 0 first\n",
+            "5 a 1 first\n",
+            "6 a 1 end\n",
+            "7 b 0 end\n",
+            "8 b 1 receive s 0\n",
+            "9 a 2 first\n",
+            "10 a 2 end\n",
+            "11 b 1 first\n",
+            "12 b 1 end\n",
+        ],
+    ),
+    // A hold takes ticks 6 and 7, is preempted past its bound, and takes tick 12 too.
+    (
+        &[HIGH, HOLDER],
+        b"",
+        21,
+        &[
+            "2 hi 0 send o 1\n",
+            "3 hi 0 first\n",
+            "4 hi 0 end\n",
+            "10 hi 1 send o 1\n",
+            "11 hi 1 first\n",
+            "12 hi 1 end\n",
+            "15 lo 0 send o 1\n",
+            "16 lo 0 first\n",
+            "18 hi 2 send o 1\n",
+            "19 hi 2 first\n",
+            "20 hi 2 end\n",
+            "21 lo 0 end\n",
+        ],
+    ),
+    (&[STUCK], b"", 1000, &[]),
+    // A backlog that grows.
+    (
+        &[LATE],
+        b"t s 5 6\n",
+        20,
+        &[
+            "1 t 0 receive s 5\n",
+            "3 t 0 send o 5\n",
+            "8 t 0 first\n",
+            "9 t 0 end n=1\n",
+            "10 t 1 receive s 6\n",
+            "12 t 1 send o 6\n",
+            "17 t 1 first\n",
+            "18 t 1 end n=2\n",
+            "19 t 2 receive s 0\n",
+        ],
+    ),
+    // Ranges that overlap.
+    (
+        &[SHIFTING],
+        b"",
+        6,
+        &["5 t 0 first\n", "6 t 0 end a=[1,1,2] b=true\n"],
+    ),
+];
+
+fn names(alloc: Global, spelled: &[&[u8]]) -> Result<Items<Name>, Fail> {
+    let mut list = Items::new(alloc);
+    for name in spelled {
+        list.push(Name::new(name).ok_or("a name")?)?;
+    }
+    Ok(list)
+}
+
+fn task_of(alloc: Global, row: &Row) -> Result<ImageTask, Fail> {
+    let mut states = Items::new(alloc);
+    for (name, kind, first) in row.states {
+        states.push(ImageState {
+            name: Name::new(name).ok_or("a name")?,
+            kind: *kind,
+            words: (first.len() % 4096) as u32,
+            first: Items::from_slice(alloc, first)?,
+        })?;
+    }
+    let mut code = Items::new(alloc);
+    for (depth, instr) in row.code {
+        code.push(Line {
+            instr: *instr,
+            depth: *depth,
+        })?;
+    }
+    Ok(ImageTask {
+        name: Name::new(row.name).ok_or("a name")?,
+        period: row.period,
+        sliced: false,
+        inputs: names(alloc, row.inputs)?,
+        outputs: names(alloc, row.outputs)?,
+        states,
+        cells: row.cells,
+        code,
+    })
+}
+
+#[test]
+fn whole_traces(rt: HostRuntime) -> Result<(), Fail> {
+    for (rows, text, ticks, lines) in TRACES {
+        let mut tasks = Items::new(rt.alloc());
+        for row in rows {
+            tasks.push(task_of(rt.alloc(), row)?)?;
+        }
+        let image = Image {
+            costs: Costs::unit(),
+            tasks,
+        };
+        assert!(rt; in_range(&image));
+        let Ok(ready) = verify(image) else {
+            return Err(Fail::new("valid"));
+        };
+        let mut buffer = Buffer::for_image(rt.alloc(), &ready)?;
+        let ports = ready.ports(rt.alloc())?;
+        assert!(rt; text.len() <= 100);
+        let script = read_script(rt.alloc(), text, &ports)?;
+        let mut machine = Machine::load(rt.alloc(), ready, script)?;
+        let mut left = lines.iter();
+        for _ in 0..ticks {
+            assert!(rt; machine.now() < 1_000_000_000_000);
+            if let Some(entry) = machine.tick() {
+                put_entry(&mut buffer, &machine, &entry);
+                assert_eq!(rt;
+                    left.next().map(|line| line.as_bytes()),
+                    Some(buffer.bytes())
+                );
+            }
+        }
+        assert!(rt; left.next().is_none());
     }
     Ok(())
 }
