@@ -3,3 +3,7 @@ pub mod MeaningLaws
 pub mod PromiseLaws
 pub mod PlainLaws
 mod TraceLemmas
+pub mod StateWords
+pub mod Scope
+pub mod Remain
+pub mod Bodies

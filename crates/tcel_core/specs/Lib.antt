@@ -1,4 +1,5 @@
 pub mod Cells
+pub mod Contents
 pub mod Examples
 pub mod Frames
 pub mod Inputs

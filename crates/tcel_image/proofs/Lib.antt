@@ -8,3 +8,4 @@ pub mod NameFields
 pub mod Readers
 pub mod Texts
 pub mod Whole
+pub mod Traces

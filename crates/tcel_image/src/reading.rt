@@ -1,7 +1,7 @@
 ghost use Rattle.std.specs.Prelude.{◌≡◌, ℕ, List, ◌+◌, ◌-◌, ◌<◌, ◌≤◌, length, Result, Ok, IfOk};
 ghost use Rattle.std.specs.List.{prefix_len};
 ghost use Rattle.std.specs.Int.{w16, w32, IsInRange};
-ghost use Rattle.tcel_num.specs.Name.{may_start, may_follow};
+ghost use Rattle.tcel_num.specs.Name.{may_follow};
 ghost use Rattle.tcel_image.specs.Spelling.{magic, state_words, most_words, InRange, spelling};
 ghost use Rattle.tcel_image.specs.Reading.{Gives, Answers, number_at, byte_at, many_at, name_front, text_at, names_at, operands_at, const_at, op_from, operator_at, instr_at, code_at, kind_from, state_at, states_from, states_at, cost_at, costs_at, magic_at, image_at, ended, fault_in, reading};
 
@@ -11,7 +11,7 @@ use crate::image::{Image, ImageState, ImageTask, Instr, Line, StateKind};
 use crate::operands::{Operands, Range};
 use sqlite_items::Items;
 use std::alloc::Global;
-use tcel_num::{Name, Op};
+use tcel_num::{Name, Op, may_follow, may_start};
 
 /// What is read from an image many times in a row.
 trait Piece: Drop {
@@ -100,18 +100,6 @@ impl Piece for i64 {
         ]);
         Ok((value, rest))
     }
-}
-
-fn may_start(byte: u8) -> bool
-    ensures { result ≡ may_start byte }
-{
-    byte.is_ascii_alphabetic() || byte == b'_'
-}
-
-fn may_follow(byte: u8) -> bool
-    ensures { result ≡ may_follow byte }
-{
-    may_start(byte) || byte.is_ascii_digit()
 }
 
 fn following(bytes: &[u8]) -> usize

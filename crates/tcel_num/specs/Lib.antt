@@ -1,6 +1,7 @@
 pub mod Arithmetic
 pub mod Entry
 pub mod Examples
+pub mod Hyperperiod
 pub mod Lateness
 pub mod Name
 pub mod NameInside

@@ -13,7 +13,7 @@ pub use arithmetic::{add, div, mul, neg, rem, sub};
 pub use at::At;
 pub use examples::{arithmetic_example, lateness_example};
 pub use memory::NoMemory;
-pub use name::Name;
+pub use name::{Name, may_follow, may_start};
 pub use op::Op;
 pub use port_row::PortRow;
 

@@ -122,13 +122,15 @@ fn all_may_follow(bytes: &[u8]) -> bool
     bytes.iter().all(|byte| may_follow(*byte))
 }
 
-fn may_start(byte: u8) -> bool
+/// Whether a name may start with this byte: a letter or an underscore (docs/language.md).
+pub fn may_start(byte: u8) -> bool
     ensures { result ≡ may_start byte }
 {
     byte.is_ascii_alphabetic() || byte == b'_'
 }
 
-fn may_follow(byte: u8) -> bool
+/// Whether this byte may follow in a name: a letter, an underscore or a digit (docs/language.md).
+pub fn may_follow(byte: u8) -> bool
     ensures { result ≡ may_follow byte }
 {
     may_start(byte) || byte.is_ascii_digit()

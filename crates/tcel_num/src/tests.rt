@@ -1,4 +1,4 @@
-use crate::{Name, add, div, mul, neg, rem, sub};
+use crate::{Name, add, div, may_follow, may_start, mul, neg, rem, sub};
 use std::test::Fail;
 
 #[test]
@@ -46,4 +46,16 @@ fn names_are_ordered_by_bytes(rt: HostRuntime) -> Result<(), Fail> {
     assert!(rt; short < long);
     assert_eq!(rt; short, short.clone()?);
     Ok(())
+}
+
+#[test]
+fn digits_follow_in_names_and_start_none(rt: HostRuntime) {
+    assert_eq!(rt;
+        [b'z', b'A', b'_', b'0', b'-'].map(may_start),
+        [true, true, true, false, false]
+    );
+    assert_eq!(rt;
+        [b'z', b'A', b'_', b'9', b'-'].map(may_follow),
+        [true, true, true, true, false]
+    );
 }

@@ -25,14 +25,18 @@ use Rattle.tcel_image.specs.Costs.{CostsInRange}
 use Rattle.tcel_image.specs.Instructions.{cycles}
 use Rattle.tcel_image.specs.Machine.{Running, effect}
 use Rattle.tcel_image.specs.Spelling.{state_words}
-use Rattle.tcel_tool.specs.Code.{at, act_loops, expr_code, block_code, stmt_code, act_code, stmt_loops, loops, has_statement, has_event, hold_of, hold_code, branches_code, held_length}
+use Rattle.tcel_tool.specs.Code.{at, expr_code, block_code, stmt_code, act_code, hold_of, hold_code, branches_code, held_length}
+use Rattle.tcel_core.specs.Contents.{act_loops, stmt_loops, loops, has_statement, has_event}
 use Rattle.tcel_tool.specs.Costs.{code_cycles, expr_cycles}
 use Rattle.tcel_tool.specs.Walks.{Counts, WhileWalks, Walks, StmtWalks, ActWalks, Then, Either, Rounds, RoundsUpTo, Passes, held_entry}
 use Rattle.tcel_tool.proofs.Ahead.{Due, Ahead, IsAt, quietly, showing, after_cycles, makes, holds_on}
 use Rattle.tcel_tool.proofs.ExprRuns.{Stands, stands_front, stands_back, ready_at, EndsByCycles, cycles-depth, ahead_at, quiet_step, expr_runs}
-use Rattle.tcel_tool.proofs.Inputs.{Remain, take_one, takes, takes-append, same_input}
-use Rattle.tcel_tool.proofs.Scope.{IsScalar, IsSound, array_within, value_front, with_element_front, copied_front}
-use Rattle.tcel_tool.proofs.Bodies.{AreTurns, block_words, block_remains, rounds_keep, ActFits, StmtFits, Fits, Suits, AllSuit, suit_split, no_dues, suit_inside, length-enclosed, takes-enclosed, stmt_words, stmt_remains, block_quiet}
+use Rattle.tcel_core.proofs.Remain.{Remain, take_one, takes, takes-append}
+use Rattle.tcel_tool.proofs.Inputs.{same_input}
+use Rattle.tcel_core.proofs.Scope.{IsScalar, IsSound, array_within, value_front}
+use Rattle.tcel_num.proofs.Words.{with_element_front, copied_front}
+use Rattle.tcel_core.proofs.Bodies.{AreTurns, block_words, block_remains, rounds_keep, ActFits, StmtFits, Fits, length-enclosed, takes-enclosed, stmt_words, stmt_remains, block_quiet}
+use Rattle.tcel_tool.proofs.Dues.{Suits, AllSuit, suit_split, no_dues, suit_inside}
 
 -- the due of one event
 one_due : (release floor count : ℕ) (e : Occurrence) (dues : List Due) → AllSuit release floor (count ∷ []) (e ∷ []) dues → (P : List Due → Type 0) →

@@ -57,14 +57,6 @@ abbrev pub ready_at : ℕ → List ℤ → List ℤ → ℕ → List ℕ → Run
 ready_at place stack cells ended taken =
     record { cells = cells; stack = stack; place = place; spent = 0; ended = ended; taken = taken }
 
--- each operator takes as many operands as it has
-abbrev pub HaveOperands : Expr → Type 0
-HaveOperands (number n) = Unit {0}
-HaveOperands (variable v) = Unit {0}
-HaveOperands (element v i) = HaveOperands i
-HaveOperands (unary op e) = (is_unary op ≡ true) × HaveOperands e
-HaveOperands (binary op a b) = (is_unary op ≡ false) × HaveOperands a × HaveOperands b
-
 -- an instruction ends by its cycles, and not by the time
 abbrev pub EndsByCycles : Costs → ℕ → Instr → Type 0
 EndsByCycles costs period instr = (now : ℕ) (r : Running) → is_last_cycle costs period now instr r ≡ nat_le (cycles costs instr) (r.spent + 1)

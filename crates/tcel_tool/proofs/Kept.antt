@@ -8,7 +8,7 @@ use Rattle.tcel_tool.specs.declared.status.Status.{Status}
 use Rattle.tcel_tool.specs.declared.status.Status.TheVariants.{Ok}
 use Rattle.tcel_tool.specs.Answer.{Answers, Accepts, image_bytes}
 use Rattle.tcel_tool.specs.Headline.{KeepsItsPromise}
-use Rattle.tcel_tool.specs.Hyperperiod.{demand}
+use Rattle.tcel_num.specs.Hyperperiod.{demand}
 use Rattle.tcel_tool.proofs.OneTask.{promise}
 
 unit_cost : IsCost 1

@@ -5,31 +5,14 @@ use Rattle.std.proofs.Math.Nat.{div_self}
 use Rattle.tcel_num.specs.Plan.{Plan}
 use Rattle.tcel_core.specs.Language.{Task}
 use Rattle.tcel_image.specs.declared.costs.Costs.{Costs}
-use Rattle.tcel_tool.specs.Hyperperiod.{IsCommonMultiple, IsHyperperiod, demand}
+use Rattle.tcel_num.specs.Hyperperiod.{IsHyperperiod, demand}
+use Rattle.tcel_num.proofs.Hyperperiods.{only_hyperperiod, own_demand}
 use Rattle.tcel_tool.specs.WholePlan.{IsWholePlan, AreWholePlans}
 use Rattle.tcel_tool.specs.declared.plain_tree.PlainTree.{PlainTree}
 use Rattle.tcel_tool.specs.PlainTree.{IsPlain, task_of, set_of}
 use Rattle.tcel_tool.specs.Headline.{KeepsItsPromise}
 use Rattle.tcel_image.specs.Costs.{CostsInRange}
 use Rattle.tcel_tool.proofs.PlainMeets.{plain_programs_meet}
-
-at_least : (k period hyper : ℕ) → 0 < hyper → hyper ≡ k * period → period ≤ hyper
-at_least zero period hyper positive e = absurd (omega arith)
-at_least (suc k) period hyper positive e = omega arith
-
--- the hyperperiod of one plan is its period
-own_period : (plan : Plan) (hyper : ℕ) → 0 < plan.period → IsHyperperiod (plan ∷ []) hyper → hyper ≡ plan.period
-own_period plan hyper positive h =
-    let multiple : (k : ℕ) × (hyper ≡ k * plan.period) = All-head (λ (p : Plan). (k : ℕ) × (hyper ≡ k * p.period)) plan [] h.common in
-    let once : IsCommonMultiple (plan ∷ []) plan.period =
-    All-cons (λ (p : Plan). (k : ℕ) × (plan.period ≡ k * p.period)) plan [] (1, omega arith) (All-nil (λ (p : Plan). (k : ℕ) × (plan.period ≡ k * p.period))) in
-    omega (arith, h.least plan.period positive once, at_least multiple.0 plan.period hyper h.positive multiple.1)
-
--- in it one frame is released
-own_demand : (plan : Plan) (hyper : ℕ) → 0 < plan.period → hyper ≡ plan.period → demand (plan ∷ []) hyper ≡ plan.total
-own_demand plan hyper positive e =
-    let whole : plan.period / plan.period ≡ 1 = div_self positive in
-    ap (λ n. 0 + plan.total * (n / plan.period)) e ∙ ap (λ n. 0 + plan.total * n) whole ∙ omega arith
 
 -- the plan of the only task
 pub record IsOnlyPlan (task : Task) (costs : Costs) (plans : List Plan) : Type 0 where
@@ -47,8 +30,8 @@ promise tree costs plans hyper plain range whole period fits =
     let only = only_plan (task_of tree) costs plans whole in
     let plan = only.plan in
     let positive : 0 < plan.period = omega (arith, only.whole.period, plain.period.0) in
-    let repeats = own_period plan hyper positive (subst (λ (ps : List Plan). IsHyperperiod ps hyper) only.alone period) in
-    let total = own_demand plan hyper positive repeats in
+    let repeats = only_hyperperiod plan hyper positive (subst (λ (ps : List Plan). IsHyperperiod ps hyper) only.alone period) in
+    let total = ap (demand (plan ∷ [])) repeats ∙ own_demand plan positive in
     let few : demand (plan ∷ []) hyper ≤ hyper = subst (λ (ps : List Plan). demand ps hyper ≤ hyper) only.alone fits in
     record {
       plan = plan;

@@ -35,9 +35,9 @@ use Rattle.tcel_tool.specs.declared.plain_tree.PlainExpr.TheVariants as exprs
 use Rattle.tcel_tool.specs.declared.plain_tree.Operand.{Operand}
 use Rattle.tcel_tool.specs.declared.plain_tree.Operand.TheVariants as operands
 use Rattle.std.specs.List.{AllByRecursion}
-use Rattle.tcel_tool.proofs.Bodies.{ActIsUntimed, ActFits, Fits, IsUntimed}
-use Rattle.tcel_tool.proofs.Scope.{IsScalar, IsSound}
-use Rattle.tcel_tool.proofs.ServedAlone.{served_whole}
+use Rattle.tcel_core.proofs.Bodies.{ActIsUntimed, ActFits, Fits, IsUntimed}
+use Rattle.tcel_core.proofs.Scope.{IsScalar, IsSound}
+use Rattle.tcel_num.proofs.ServedAlone.{served_whole}
 use Rattle.tcel_tool.proofs.WholeSets.{Serves, set_meets}
 
 -- ---- plain programs fit

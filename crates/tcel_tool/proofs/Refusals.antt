@@ -3,6 +3,7 @@ use Rattle.std.proofs.Common.{◌≡◌, ◌≢◌, ℕ, ◌+◌, ◌<◌, ◌�
 use Rattle.std.specs.Prelude.{IfSome}
 use Rattle.std.proofs.lemmas.List.Elements.{All-from_recursion, recursion_from_All}
 use Rattle.tcel_num.specs.Plan.{Plan}
+use Rattle.tcel_num.proofs.Hyperperiods.{own_hyperperiod, own_demand}
 use Rattle.tcel_tool.specs.PlainTree.{IsPlain}
 use Rattle.tcel_tool.specs.StraightPlan.{body_cycles, plan_of}
 use Rattle.tcel_tool.proofs.StraightPlans.{plan_is}
@@ -122,32 +123,16 @@ refused_later program target told old middle new tree cycles hyper status first 
           (let r : Refuses program target told old new statuses.NoMemory = record { added = both_loads program target; loads = inr (inr refl); adds = adds; cause = tt } in r)
     ]
 
-one_period : (n : ℕ) → 1 ≤ n → n / n ≡ 1
-one_period n low = grind arith
-
-least_of : (period m : ℕ) → 0 < m → (k : ℕ) × (m ≡ k * period) → period ≤ m
-least_of period m above (zero, is) = absurd (omega (arith, is))
-least_of period m above (suc k, is) = omega (arith, is)
-
-total_once : (total times : ℕ) → times ≡ 1 → total ≡ 0 + total * times
-total_once total times is = rw is (omega arith)
-
 -- the demand of one frame in its own period
 demands_of : (tree : PlainTree) → IsPlain tree → Demands tree (body_cycles tree.body + 2) tree.period
 demands_of tree plain =
-    let low : 1 ≤ tree.period = omega (arith, plain.period.0) in
-    let once : (k : ℕ) × (tree.period ≡ k * tree.period) = (1, omega arith) in
-    let whole_times : tree.period / tree.period ≡ 1 = one_period tree.period low in
+    let plan : Plan = plan_of tree in
+    let positive : 0 < plan.period = omega (arith, plain.period.0) in
     record {
-      plans = plan_of tree ∷ [];
+      plans = plan ∷ [];
       whole = (plan_is tree, refl);
-      period =
-          record {
-            positive = low;
-            common = All-from_recursion (λ (plan : Plan). (k : ℕ) × (tree.period ≡ k * plan.period)) (plan_of tree ∷ []) (once, tt);
-            least = λ m above common. least_of tree.period m above (recursion_from_All (λ (plan : Plan). (k : ℕ) × (m ≡ k * plan.period)) (plan_of tree ∷ []) common).0;
-          };
-      cycles_of = total_once (body_cycles tree.body + 2) (tree.period / tree.period) whole_times;
+      period = own_hyperperiod plan positive;
+      cycles_of = sym (own_demand plan positive);
     }
 
 -- an accepted program with cycles that fit

@@ -14,7 +14,7 @@ use Rattle.tcel_image.specs.declared.image.Image.{Image}
 use Rattle.tcel_image.specs.Machine.{Streams, Running, tick, entries, start_task, trace}
 use Rattle.tcel_tool.proofs.Progress.{Progress, begins}
 use Rattle.tcel_tool.proofs.SetRuns.{Site, Numbered, EachProgress, AreServed, ProgressAt, task_of, plan_of, behavior_of, served_tick}
-use Rattle.tcel_tool.proofs.Traces.{trace_rises, trace_known}
+use Rattle.tcel_image.proofs.Traces.{trace_rises, trace_known}
 use Rattle.tcel_tool.proofs.TaskMeets.{keeps, ended}
 
 -- ---- a set

@@ -23,17 +23,21 @@ use Rattle.tcel_image.specs.Spelling.{state_words as image_words}
 use Rattle.tcel_image.specs.declared.image.ImageState.{ImageState}
 use Rattle.tcel_image.specs.declared.image.Line.{Line}
 use Rattle.std.specs.List.{flat_map}
-use Rattle.tcel_tool.specs.Code.{at, block_code, loops}
+use Rattle.tcel_tool.specs.Code.{at, block_code}
+use Rattle.tcel_core.specs.Contents.{loops}
 use Rattle.tcel_tool.specs.Layout.{image_task, states_of}
 use Rattle.tcel_tool.specs.Walks.{Walks}
 use Rattle.tcel_tool.specs.WholePlan.{IsWholePlan}
 use Rattle.tcel_tool.proofs.Ahead.{Due, Ahead, IsAt, makes_last, showing, after_cycles}
-use Rattle.tcel_tool.proofs.Bodies.{Fits, AllSuit, block_words, block_remains, ArePlain, AreUpTo}
+use Rattle.tcel_core.proofs.Bodies.{Fits, block_words, block_remains, ArePlain}
+use Rattle.tcel_tool.proofs.Dues.{AllSuit}
+use Rattle.tcel_tool.proofs.WalksGoOn.{AreUpTo}
 use Rattle.tcel_tool.proofs.BodyRuns.{Runs, show_step, block_runs}
-use Rattle.tcel_tool.proofs.Inputs.{Remain, takes}
+use Rattle.tcel_core.proofs.Remain.{Remain, takes}
 use Rattle.tcel_tool.proofs.ExprRuns.{Stands, stands_front, stands_back, stands_all, ready_at}
 use Rattle.tcel_tool.proofs.Progress.{Frames, IsDue, promise_of}
-use Rattle.tcel_tool.proofs.StateWords.{states_first, length-declared_state, states_words, length-start_cells, length-state_of, states_within}
+use Rattle.tcel_tool.proofs.StateWords.{states_first, states_words}
+use Rattle.tcel_core.proofs.StateWords.{length-declared_state, length-start_cells, length-state_of, states_within}
 
 -- ---- dues
 

@@ -17,9 +17,10 @@ use Rattle.tcel_image.specs.Machine.{Streams, trace}
 use Rattle.tcel_tool.specs.Layout.{image_of, image_task}
 use Rattle.tcel_tool.specs.Walks.{Walks}
 use Rattle.tcel_tool.specs.WholePlan.{IsWholePlan}
-use Rattle.tcel_tool.proofs.Bodies.{Fits, IsUntimed, block_plain, block_goes_on, upto_later}
+use Rattle.tcel_core.proofs.Bodies.{Fits, IsUntimed, block_plain}
+use Rattle.tcel_tool.proofs.WalksGoOn.{block_goes_on, upto_later}
 use Rattle.tcel_tool.proofs.Progress.{IsDue}
-use Rattle.tcel_tool.proofs.ReachedInTime.{reached_in_time}
+use Rattle.tcel_num.proofs.ReachedInTime.{reached_in_time}
 use Rattle.tcel_tool.proofs.SetMeets.{image_of_sites, shows}
 use Rattle.tcel_tool.proofs.SetRuns.{Site, Numbered, task_of, plan_of, behavior_of}
 use Rattle.tcel_tool.proofs.WholeFrames.{EachDue, dues_of, events_due, whole_frames, whole_first}

@@ -14,7 +14,7 @@ use Rattle.tcel_tool.specs.declared.status.LimitFault.{LimitFault}
 use Rattle.tcel_tool.specs.declared.status.LimitFault.TheVariants as limits
 use Rattle.tcel_tool.specs.CanonicalText.{text_of}
 use Rattle.tcel_tool.specs.FaultLine.{word_at}
-use Rattle.tcel_tool.specs.Hyperperiod.{IsHyperperiod, demand}
+use Rattle.tcel_num.specs.Hyperperiod.{IsHyperperiod, demand}
 use Rattle.tcel_tool.specs.Layout.{image_of}
 use Rattle.tcel_tool.specs.PlainTree.{IsPlain, set_of}
 use Rattle.tcel_tool.specs.StraightPlan.{body_cycles}

@@ -2,6 +2,7 @@
 use Rattle.std.specs.Prelude.{ℕ, ◌+◌, pos, Bool, true, false, List, [], ◌∷◌, ◌++◌, length, Option, None, Some, if◌then◌else◌}
 use Rattle.tcel_core.specs.declared.var.Var.{Var}
 use Rattle.tcel_core.specs.Cells.{all_words, place, width}
+use Rattle.tcel_core.specs.Contents.{has_statement, has_event, loops, stmt_loops}
 use Rattle.tcel_core.specs.Language.{Expr, number, variable, element, unary, binary, Window, Block, done, next, Stmt, item, choice, timed, Act, assign, assign_at, receive, send, for_loop, while_loop, copy}
 use Rattle.tcel_image.specs.declared.image.Line.{Line}
 use Rattle.tcel_image.specs.declared.image.Instr.{Instr}
@@ -18,45 +19,6 @@ expr_code (variable v) vars depth = at depth (Get (place vars v))
 expr_code (element v i) vars depth = expr_code i vars depth ++ at (depth + 1) (GetAt (place vars v) (width vars v))
 expr_code (unary op e) vars depth = expr_code e vars depth ++ at (depth + 1) (Arith op)
 expr_code (binary op a b) vars depth = expr_code a vars depth ++ (expr_code b vars (depth + 1) ++ at (depth + 2) (Arith op))
-
--- whether a block has a statement
-abbrev pub has_statement : Block → Bool
-has_statement done = false
-has_statement (next s rest) = true
-
--- whether there is a receive or a send in statements
-abbrev mutual
-  pub has_event : Block → Bool
-  has_event done = false
-  has_event (next s rest) = if stmt_has_event s then true else has_event rest
-
-  pub stmt_has_event : Stmt → Bool
-  stmt_has_event (item id act) = act_has_event act
-  stmt_has_event (choice id test held other) = if has_event held then true else has_event other
-  stmt_has_event (timed id window body) = has_event body
-
-  pub act_has_event : Act → Bool
-  act_has_event (receive v port) = true
-  act_has_event (send e port) = true
-  act_has_event (for_loop v turns body) = has_event body
-  act_has_event (while_loop test turns body) = has_event body
-  act_has_event _ = false
-
--- how many loops stand in statements
-abbrev mutual
-  pub loops : Block → ℕ
-  loops done = 0
-  loops (next s rest) = stmt_loops s + loops rest
-
-  pub stmt_loops : Stmt → ℕ
-  stmt_loops (item id act) = act_loops act
-  stmt_loops (choice id test held other) = loops held + loops other
-  stmt_loops (timed id window body) = loops body
-
-  pub act_loops : Act → ℕ
-  act_loops (for_loop v turns body) = 1 + loops body
-  act_loops (while_loop test turns body) = 1 + loops body
-  act_loops _ = 0
 
 -- the bound of the hold with which a `do` block begins: it has `start after`, and a receive or a send stands in it
 abbrev pub hold_of : Window → Block → Option ℕ

@@ -11,7 +11,8 @@ use Rattle.tcel_image.specs.declared.image.ImageTask.{ImageTask}
 use Rattle.tcel_image.specs.declared.image.ImageState.{ImageState}
 use Rattle.tcel_image.specs.declared.image.StateKind.{StateKind}
 use Rattle.tcel_image.specs.declared.image.StateKind.TheVariants as kinds
-use Rattle.tcel_tool.specs.Code.{loops, whole_code}
+use Rattle.tcel_core.specs.Contents.{loops}
+use Rattle.tcel_tool.specs.Code.{whole_code}
 
 -- how a variable is shown
 abbrev pub kind_of : VarKind → StateKind

@@ -5,7 +5,6 @@ pub mod Costs
 pub mod Examples
 pub mod Headline
 pub mod FaultLine
-pub mod Hyperperiod
 pub mod Layout
 pub mod Lines
 pub mod PlainLimits

@@ -4,7 +4,8 @@ use Rattle.tcel_num.specs.Plan.{Plan, Point, PointName, frame, before, within}
 use Rattle.tcel_core.specs.declared.var.Var.{Var}
 use Rattle.tcel_core.specs.Language.{Window, Block, done, next, Stmt, item, choice, timed, Task}
 use Rattle.tcel_image.specs.declared.costs.Costs.{Costs}
-use Rattle.tcel_tool.specs.Code.{has_event, hold_of}
+use Rattle.tcel_core.specs.Contents.{has_event}
+use Rattle.tcel_tool.specs.Code.{hold_of}
 use Rattle.tcel_tool.specs.Costs.{expr_cycles}
 use Rattle.tcel_tool.specs.Walks.{Counts, Walks, StmtWalks, IsTotal, IsFirstCount, IsLastCount, held_entry}
 

@@ -1,24 +1,17 @@
--- Bodies of checked programs: what they leave of words and inputs, which events they make, and how their walks go.
-use Rattle.std.proofs.Common.{pos, ◌^◌, ◌<◌, ◌≡◌, ℕ, zero, suc, ◌+◌, ◌≤◌, Bool, true, false, cond, ℤ, List, [], ◌∷◌, ◌++◌, length, get_or, refl, sym, ap, ◌∙◌, subst, arith, Option, Some, None, inl, inr}
-use Rattle.std.specs.Prelude.{max, unwrap_or}
+-- Bodies of checked programs: what they leave of words and inputs, and which events they make.
+use Rattle.std.proofs.Common.{pos, ◌^◌, ◌<◌, ◌≡◌, ℕ, zero, suc, Bool, true, false, cond, ℤ, List, [], ◌∷◌, ◌++◌, length, get_or, refl, sym, ap, ◌∙◌, subst, arith}
 use Rattle.std.proofs.lemmas.Bool.{cond_both, true≢false}
 use Rattle.std.proofs.lemmas.List.{length-set}
 use Rattle.tcel_num.specs.Arithmetic.{holds}
+use Rattle.tcel_num.proofs.Words.{length-with_element, length-copied}
 use Rattle.tcel_core.specs.declared.var.Var.{Var}
 use Rattle.tcel_core.specs.Cells.{all_words, place, width, set_word}
+use Rattle.tcel_core.specs.Contents.{has_event, stmt_has_event, act_has_event}
 use Rattle.tcel_core.specs.Language.{Block, done, next, Window, Stmt, item, choice, timed, Act, assign, assign_at, receive, send, for_loop, while_loop, copy}
 use Rattle.tcel_core.specs.Meaning.{exec, exec_act, exec_stmt, head_or_zero, value, with_cells}
 use Rattle.tcel_core.specs.Outcome.{Memory, Occurrence, Outcome, enclosed, quiet, rounds, rounds_while, then_run}
-use Rattle.tcel_core.specs.Promises.{what_of}
-use Rattle.tcel_core.specs.Windows.{earliest}
-use Rattle.tcel_image.specs.declared.costs.Costs.{Costs}
-use Rattle.tcel_image.specs.Instructions.{cycles}
-use Rattle.tcel_tool.specs.Code.{has_event, stmt_has_event, act_has_event, hold_of}
-use Rattle.tcel_tool.specs.Costs.{expr_cycles}
-use Rattle.tcel_tool.specs.Walks.{Counts, Walks, StmtWalks, ActWalks, Then, Either, Rounds, RoundsUpTo, Passes, Shows, held_entry, jump_cost}
-use Rattle.tcel_tool.proofs.Ahead.{Due}
-use Rattle.tcel_tool.proofs.Inputs.{Remain, take_one, takes, takes-append, remain_after}
-use Rattle.tcel_tool.proofs.Scope.{IsScalar, IsSound, AreAlike, array_within, length-with_element, length-copied}
+use Rattle.tcel_core.proofs.Remain.{Remain, take_one, takes, takes-append, remain_after}
+use Rattle.tcel_core.proofs.Scope.{IsScalar, IsSound, AreAlike, array_within}
 
 -- ---- which bodies: scalars where scalars are named, operators with their operands, loops with turns, copies between arrays of one width
 
@@ -46,54 +39,7 @@ abbrev mutual
   ActFits (while_loop test n body) vars = IsSound vars test × AreTurns n × Fits body vars
   ActFits (copy a b) vars = AreAlike vars a b
 
--- ---- dues of events
-
--- the due is of this event: by this count or later, and no earlier than the release, a time before and the blocks around the event ask
-pub record Suits (release floor count : ℕ) (e : Occurrence) (due : Due) : Type 0 where
-  pub shows : due.promise.what ≡ what_of e.kind e.port e.value
-  pub soon : count ≤ due.by
-  pub early : due.promise.earliest ≤ max floor (release + earliest e.around)
-
-abbrev pub AllSuit : ℕ → ℕ → List ℕ → List Occurrence → List Due → Type 0
-AllSuit release floor [] [] [] = Unit {0}
-AllSuit release floor (c ∷ cs) (e ∷ es) (d ∷ ds) = Suits release floor c e d × AllSuit release floor cs es ds
-AllSuit release floor _ _ _ = ⊥
-
--- the dues of some events and then of others
-pub record Split (release floor : ℕ) (cs cs' : List ℕ) (a b : List Occurrence) (dues : List Due) : Type 0 where
-  pub front : List Due
-  pub back : List Due
-  pub joined : dues ≡ front ++ back
-  pub one : AllSuit release floor cs a front
-  pub two : AllSuit release floor cs' b back
-
-pub suit_split : (release floor : ℕ) (cs cs' : List ℕ) (a b : List Occurrence) (dues : List Due) → length cs ≡ length a → AllSuit release floor (cs ++ cs') (a ++ b) dues → Split release floor cs cs' a b dues
-suit_split release floor [] cs' [] b dues h suit = record { front = []; back = dues; joined = refl; one = tt; two = suit }
-suit_split release floor [] cs' (e ∷ a) b dues h suit = absurd (omega arith)
-suit_split release floor (c ∷ cs) cs' [] b dues h suit = absurd (omega arith)
-suit_split release floor (c ∷ cs) cs' (e ∷ a) b [] h suit = absurd suit
-suit_split release floor (c ∷ cs) cs' (e ∷ a) b (d ∷ dues) h suit =
-    let rest = suit_split release floor cs cs' a b dues (omega arith) suit.1 in
-    record { front = d ∷ rest.front; back = rest.back; joined = ap (λ l. d ∷ l) rest.joined; one = (suit.0, rest.one); two = rest.two }
-
-pub no_dues : (release floor : ℕ) (counts : List ℕ) (dues : List Due) → AllSuit release floor counts [] dues → dues ≡ []
-no_dues release floor [] [] suit = refl
-no_dues release floor [] (d ∷ dues) suit = absurd suit
-no_dues release floor (c ∷ counts) dues suit = absurd suit
-
--- a due of an event in a `do` block is one of the event inside it, no earlier than the block asks
-pub suit_inside : (release floor id : ℕ) (window : Window) (leads : Bool) (counts : List ℕ) (events : List Occurrence) (dues : List Due) →
-    AllSuit release floor counts (enclosed id window leads events) dues → AllSuit release (max floor (release + unwrap_or window.after 0)) counts events dues
-suit_inside release floor id window leads [] [] [] suit = tt
-suit_inside release floor id window leads [] [] (d ∷ dues) suit = absurd suit
-suit_inside release floor id window leads [] (e ∷ events) dues suit = absurd suit
-suit_inside release floor id window leads (c ∷ counts) [] dues suit = absurd suit
-suit_inside release floor id window leads (c ∷ counts) (e ∷ events) [] suit = absurd suit
-suit_inside release floor id window leads (c ∷ counts) (e ∷ events) (d ∷ dues) suit =
-    let early = suit.0.early in (
-      record { shows = suit.0.shows; soon = suit.0.soon; early = omega arith },
-      suit_inside release floor id window false counts events dues suit.1,
-    )
+-- ---- events in blocks
 
 pub length-enclosed : (id : ℕ) (window : Window) (leads : Bool) (events : List Occurrence) → length (enclosed id window leads events) ≡ length events
 length-enclosed id window leads [] = refl
@@ -103,8 +49,6 @@ length-enclosed id window leads (e ∷ events) = ap suc (length-enclosed id wind
 pub takes-enclosed : (id : ℕ) (window : Window) (leads : Bool) (events : List Occurrence) (taken : List ℕ) → takes (enclosed id window leads events) taken ≡ takes events taken
 takes-enclosed id window leads [] taken = refl
 takes-enclosed id window leads (e ∷ events) taken = takes-enclosed id window false events (take_one e.kind e.port taken)
-
--- ---- what statements leave of the words and inputs
 
 -- ---- what rounds keep
 
@@ -290,101 +234,3 @@ mutual
   act_plain (while_loop test n body) vars h plain m =
       while_events ArePlain tt plain-append (λ k. holds (value test vars k.cells)) (exec body vars) (λ k. block_plain body vars h.2 plain k) n m
   act_plain (copy a b) vars h plain m = tt
-
--- ---- walks
-
--- counts up to an end
-abbrev pub AreUpTo : ℕ → List ℕ → Type 0
-AreUpTo end [] = Unit {0}
-AreUpTo end (c ∷ cs) = (c ≤ end) × AreUpTo end cs
-
-pub upto_later : (sooner later : ℕ) (cs : List ℕ) → sooner ≤ later → AreUpTo sooner cs → AreUpTo later cs
-upto_later sooner later [] h g = tt
-upto_later sooner later (c ∷ cs) h g = (let k = g.0 in omega arith, upto_later sooner later cs h g.1)
-
-upto-append : (end : ℕ) (a b : List ℕ) → AreUpTo end a → AreUpTo end b → AreUpTo end (a ++ b)
-upto-append end [] b h g = g
-upto-append end (c ∷ a) b h g = (h.0, upto-append end a b h.1 g)
-
--- a walk goes on, and has its events by its end
-pub record GoesOn (entry end : ℕ) (events : List ℕ) : Type 0 where
-  pub later : entry ≤ end
-  pub events_by_end : AreUpTo end events
-
-passes_on : (cycles entry end : ℕ) (events : List ℕ) → Passes cycles entry end events → GoesOn entry end events
-passes_on cycles entry end events walk =
-    record { later = let w = walk.0 in omega arith; events_by_end = subst (AreUpTo end) (sym walk.1) tt }
-
-shows_on : (cycles entry end : ℕ) (events : List ℕ) → Shows cycles entry end events → GoesOn entry end events
-shows_on cycles entry end events walk =
-    record { later = let w = walk.0 in omega arith; events_by_end = subst (AreUpTo end) (sym walk.1) (omega arith, tt) }
-
--- one walk and then another
-then_on : (first second : Counts) (entry end : ℕ) (events : List ℕ) → ((from to : ℕ) (es : List ℕ) → first from to es → GoesOn from to es) →
-    ((from to : ℕ) (es : List ℕ) → second from to es → GoesOn from to es) → Then first second entry end events → GoesOn entry end events
-then_on first second entry end events h g walk =
-    let one = h entry walk.middle walk.before walk.one in
-    let two = g walk.middle end walk.after walk.two in record {
-      later = let a = one.later in let b = two.later in omega arith;
-      events_by_end = subst (AreUpTo end) (sym walk.joined) (upto-append end walk.before walk.after (upto_later walk.middle end walk.before two.later one.events_by_end) two.events_by_end);
-    }
-
-rounds_on : (n : ℕ) (round : Counts) → ((from to : ℕ) (es : List ℕ) → round from to es → GoesOn from to es) → (entry end : ℕ) (events : List ℕ) → Rounds n round entry end events → GoesOn entry end events
-rounds_on zero round h entry end events walk = passes_on 0 entry end events walk
-rounds_on (suc n) round h entry end events walk = then_on round (Rounds n round) entry end events h (rounds_on n round h) walk
-
-held_later : (hold : Option ℕ) (entry : ℕ) → entry ≤ held_entry hold entry
-held_later None entry = omega arith
-held_later (Some bound) entry = omega arith
-
-mutual
-  pub block_goes_on : (b : Block) (vars : List Var) → Fits b vars → (costs : Costs) (entry end : ℕ) (events : List ℕ) → Walks b vars costs entry end events → GoesOn entry end events
-  block_goes_on done vars h costs entry end events walk = passes_on 0 entry end events walk
-  block_goes_on (next s rest) vars h costs entry end events walk =
-      then_on (StmtWalks s vars costs) (Walks rest vars costs) entry end events (stmt_goes_on s vars h.0 costs) (block_goes_on rest vars h.1 costs) walk
-
-  stmt_goes_on : (s : Stmt) (vars : List Var) → StmtFits s vars → (costs : Costs) (entry end : ℕ) (events : List ℕ) → StmtWalks s vars costs entry end events → GoesOn entry end events
-  stmt_goes_on (item id act) vars h costs entry end events walk = act_goes_on act vars h costs entry end events walk
-  stmt_goes_on (choice id test held other) vars h costs entry end events walk =
-      let jump = jump_cost costs other in
-      let yes_walks = Then (Walks held vars costs) (Passes jump) in
-      then_on (Passes (expr_cycles costs vars test + costs.branch)) (Either yes_walks (Walks other vars costs)) entry end events (passes_on _)
-      (λ from to es w.
-      elim w as (λ _. GoesOn from to es) [
-        | inl one ↦ then_on (Walks held vars costs) (Passes jump) from to es (block_goes_on held vars h.1 costs) (passes_on jump) one
-        | inr two ↦ block_goes_on other vars h.2 costs from to es two
-      ])
-      walk
-  stmt_goes_on (timed id window body) vars h costs entry end events walk =
-      let inner = block_goes_on body vars h costs (held_entry (hold_of window body) entry) end events walk in
-      let low = held_later (hold_of window body) entry in
-      record { later = let g = inner.later in omega arith; events_by_end = inner.events_by_end }
-
-  act_goes_on : (act : Act) (vars : List Var) → ActFits act vars → (costs : Costs) (entry end : ℕ) (events : List ℕ) → ActWalks act vars costs entry end events → GoesOn entry end events
-  act_goes_on (assign v e) vars h costs entry end events walk = passes_on _ entry end events walk
-  act_goes_on (assign_at v i e) vars h costs entry end events walk = passes_on _ entry end events walk
-  act_goes_on (receive v port) vars h costs entry end events walk = shows_on _ entry end events walk
-  act_goes_on (send e port) vars h costs entry end events walk = shows_on _ entry end events walk
-  act_goes_on (for_loop v n body) vars h costs entry end events walk =
-      let inner = Then (Walks body vars costs) (Passes costs.loop_) in
-      let round = Then (Passes (costs.load + costs.store)) inner in
-      then_on (Passes (costs.const_ + costs.store)) (Rounds n round) entry end events (passes_on _)
-      (rounds_on n round
-      (λ from to es w. then_on (Passes (costs.load + costs.store)) inner from to es (passes_on _)
-      (λ from' to' es' w'. then_on (Walks body vars costs) (Passes costs.loop_) from' to' es' (block_goes_on body vars h.2 costs) (passes_on _) w') w))
-      walk
-  act_goes_on (while_loop test n body) vars h costs entry end events walk =
-      let tested = Passes (expr_cycles costs vars test + costs.branch) in
-      let inner = Then (Walks body vars costs) (Passes costs.loop_) in
-      let round = Then tested inner in
-      let each : (from to : ℕ) (es : List ℕ) → round from to es → GoesOn from to es =
-      λ from to es w. then_on tested inner from to es (passes_on _)
-      (λ from' to' es' w'. then_on (Walks body vars costs) (Passes costs.loop_) from' to' es' (block_goes_on body vars h.2 costs) (passes_on _) w') w in
-      then_on (Passes (costs.const_ + costs.store)) (RoundsUpTo n round tested) entry end events (passes_on _)
-      (λ from to es w.
-      elim w as (λ _. GoesOn from to es) [
-        | inl fewer ↦ then_on (Rounds fewer.0 round) tested from to es (rounds_on fewer.0 round each) (passes_on _) fewer.2
-        | inr all ↦ rounds_on n round each from to es all
-      ])
-      walk
-  act_goes_on (copy a b) vars h costs entry end events walk = passes_on _ entry end events walk
