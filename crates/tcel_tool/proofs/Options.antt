@@ -1,7 +1,6 @@
 -- What is known of an option or a result.
-use Rattle.std.proofs.Common.{Option, Some, None, Result, Ok, Err, List, ℕ, inl, inr, ◌⊎◌}
-use Rattle.std.specs.Prelude.{MatchOption, IfSome, IfErr, IfOk, OnOk, OnErr}
-use Rattle.tcel_io.specs.Taken.{Takes, TakesPrefix, TakesPrefix-all}
+use Rattle.std.proofs.Common.{Option, Some, None, Result, Ok, Err}
+use Rattle.std.specs.Prelude.{MatchOption, IfSome, IfErr, IfOk, OnOk}
 
 -- of two cases the second
 pub some_part : {A : Type 0} (P : Type 0) (Q : A → Type 0) (o : Option A) → MatchOption o P Q → IfSome o Q
@@ -17,13 +16,3 @@ err_map P Q (Err e) f h = f e h
 pub ok_map : {T E : Type 0} (R : Type 0) (P Q : T → Type 0) (r : Result T E) → ((x : T) → R → P x → Q x) → OnOk r R → IfOk r P → IfOk r Q
 ok_map R P Q (Ok x) f e h = f x e h
 ok_map R P Q (Err e) f g h = tt
-
--- one of two cases
-pub either : {T E : Type 0} (Good Bad : Type 0) (r : Result T E) → OnOk r Good → OnErr r Bad → Bad ⊎ Good
-either Good Bad (Ok x) good bad = inr good
-either Good Bad (Err e) good bad = inl bad
-
--- what was taken whole or in part
-pub in_part : {T E : Type 0} (text : List ℕ) (old new : Option (List ℕ)) (r : Result T E) → OnOk r (Takes text old new) → OnErr r (TakesPrefix text old new) → TakesPrefix text old new
-in_part text old new (Ok x) whole part = TakesPrefix-all text old new whole
-in_part text old new (Err e) whole part = part

@@ -10,7 +10,6 @@ use Rattle.tcel_image.specs.Spelling.{spelling, InRange}
 use Rattle.tcel_tool.specs.declared.plain_tree.PlainTree.{PlainTree}
 use Rattle.tcel_tool.specs.declared.status.Status.{Status}
 use Rattle.tcel_tool.specs.declared.status.Status.TheVariants as statuses
-use Rattle.tcel_tool.specs.declared.status.LimitFault.{LimitFault}
 use Rattle.tcel_tool.specs.declared.status.LimitFault.TheVariants as limits
 use Rattle.tcel_tool.specs.CanonicalText.{text_of}
 use Rattle.tcel_tool.specs.FaultLine.{word_at}

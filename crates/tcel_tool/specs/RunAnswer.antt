@@ -1,5 +1,5 @@
 -- What a call of `run` answers, and what it does to its files and streams.
-use Rattle.std.specs.Prelude.{◌≡◌, ℕ, ◌+◌, ◌-◌, ◌*◌, ◌<◌, ◌≤◌, ◌⊎◌, ◌&&◌, nat_lt, nat_le, if◌then◌else◌, List, [], ◌∷◌, Option, Some, None, Err, Ok, IfSome, length, codes}
+use Rattle.std.specs.Prelude.{◌≡◌, ℕ, ◌<◌, ◌≤◌, ◌⊎◌, ◌&&◌, nat_lt, nat_le, if◌then◌else◌, List, [], ◌∷◌, Option, Some, None, Err, Ok, IfSome, length, map, codes}
 use Rattle.std.specs.List.{list_all}
 use Rattle.std.specs.Char.{is_ascii_digit}
 use Rattle.tcel_io.specs.Load.{Load, AddsLoads}
@@ -8,7 +8,7 @@ use Rattle.tcel_io.specs.declared.loaded.Outcome.TheVariants.{Done, Fault, TooLo
 use Rattle.tcel_image.specs.Machine.{Streams, trace}
 use Rattle.tcel_image.specs.Reading.{reading}
 use Rattle.tcel_image.specs.Spelling.{spelling, InRange}
-use Rattle.tcel_image.specs.TraceText.{text}
+use Rattle.tcel_image.specs.TraceText.{line}
 use Rattle.tcel_image.specs.Validity.{IsValid, IsFirstFlaw}
 use Rattle.tcel_image.specs.declared.image.Image.{Image}
 use Rattle.tcel_script.specs.Numbers.{magnitude}
@@ -16,9 +16,7 @@ use Rattle.tcel_script.specs.Script.{script_of}
 use Rattle.tcel_verify.specs.Ports.{port_rows}
 use Rattle.tcel_tool.specs.declared.status.Status.{Status}
 use Rattle.tcel_tool.specs.declared.status.Status.TheVariants as statuses
-use Rattle.tcel_tool.specs.declared.status.LimitFault.{LimitFault}
 use Rattle.tcel_tool.specs.declared.status.LimitFault.TheVariants as limits
-use Rattle.tcel_tool.specs.declared.status.CountKind.{CountKind}
 use Rattle.tcel_tool.specs.Answer.{load_of, IsCompile, IsLoadRefusal}
 use Rattle.tcel_tool.specs.FaultLine.{word_at}
 
@@ -88,20 +86,20 @@ pub record Runs (image script : Option (List ℕ)) (given : Image) (streams : St
   pub image_in : IsImageIn image given
   pub streams_in : IfSome script (λ b. script_of (port_rows given) b ≡ Ok streams)
 
--- the text of the trace
-abbrev pub trace_text : Image → Streams → ℕ → List ℕ
-trace_text image streams ticks = text image (trace image streams ticks)
+-- the lines of the trace, one for each entry
+abbrev pub trace_lines : Image → Streams → ℕ → List (List ℕ)
+trace_lines image streams ticks = map (line image) (trace image streams ticks)
 
 -- the image's bytes give a valid image
 abbrev pub LoadedFirst : Option (List ℕ) → Type 0
 LoadedFirst image = (given : Image) × IsImageIn image given
 
--- when a call gives this status, for the bytes of its files where they are told, what out took whole, and what it took in part
-abbrev pub RunAnswers : Option (List ℕ) → Option (List ℕ) → ℕ → (List ℕ → Type 0) → (List ℕ → Type 0) → Status → Type 0
+-- when a call gives this status, for the bytes of its files where they are told; which lines out took all, and of which it took some
+abbrev pub RunAnswers : Option (List ℕ) → Option (List ℕ) → ℕ → (List (List ℕ) → Type 0) → (List (List ℕ) → Type 0) → Status → Type 0
 RunAnswers image script ticks TookAll TookSome statuses.Ok =
-    (ticks ≤ most_ticks) × ((given : Image) × (streams : Streams) × Runs image script given streams × TookAll (trace_text given streams ticks))
+    (ticks ≤ most_ticks) × ((given : Image) × (streams : Streams) × Runs image script given streams × TookAll (trace_lines given streams ticks))
 RunAnswers image script ticks TookAll TookSome statuses.WriteFault =
-    (ticks ≤ most_ticks) × ((given : Image) × (streams : Streams) × Runs image script given streams × TookSome (trace_text given streams ticks))
+    (ticks ≤ most_ticks) × ((given : Image) × (streams : Streams) × Runs image script given streams × TookSome (trace_lines given streams ticks))
 RunAnswers image script ticks TookAll TookSome (statuses.Limit (limits.Count kind value)) = (value ≡ ticks) × (most_ticks < ticks)
 RunAnswers image script ticks TookAll TookSome (statuses.Limit (limits.Bytes word limit)) =
     (ticks ≤ most_ticks)
@@ -152,4 +150,4 @@ pub record RefusesRun (image script : List ℕ) (ticks : ℕ) (told : List ℕ �
   pub added : List Load
   pub loads : AreRunLoads image script status added
   pub adds : AddsLoads added old new
-  pub cause : RunAnswers (told image) (told script) ticks (λ text. ⊥) (λ text. ⊥) status
+  pub cause : RunAnswers (told image) (told script) ticks (λ lines. ⊥) (λ lines. ⊥) status

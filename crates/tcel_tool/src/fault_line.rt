@@ -1,27 +1,17 @@
-ghost use Rattle.std.specs.Prelude.{◌≡◌, [], ◌∷◌, map, length, string_bytes, OnOk, OnErr};
-ghost use Rattle.std.specs.List.{concat};
+ghost use Rattle.std.specs.Prelude.{◌≡◌, [], ◌∷◌, map, length, string_bytes};
 ghost use Rattle.std.specs.Fmt.{decimal};
-ghost use Rattle.tcel_io.specs.Count.{Rose, PutsAtMost};
-ghost use Rattle.tcel_io.specs.Taken.{Takes, TakesPrefix};
-ghost use Rattle.tcel_tool.specs.FaultLine.{fault_line, fault_pieces, flaw_pieces, flaw_text, image_pieces, limit_pieces, script_pieces, word_at};
+ghost use Rattle.tcel_io.specs.InTurn.{ArePut, seen};
+ghost use Rattle.tcel_tool.specs.FaultLine.{fault_pieces, flaw_pieces, flaw_text, image_pieces, limit_pieces, script_pieces, word_at};
 
 use crate::status::{CountKind, LimitFault, Status};
 use itoa::Buffer;
 use tcel_image::{Flaw, FlawKind, ImageFail};
-use tcel_io::{Sink, SinkFault};
+use tcel_io::Sink;
 use tcel_script::ScriptFail;
 
-/// Puts the fault line of the status (docs/formats.md), in pieces: the texts between words and numbers, and these.
-pub(crate) fn put_fault_line<K: Sink>(
-    words: &[String],
-    status: Status,
-    err: &mut K,
-) -> Result<(), SinkFault>
-    ensures whole { OnOk result (Takes (fault_line (map string_bytes words.now) status) (K.taken err.old) (K.taken err.new)) }
-    ensures prefix { OnErr result (TakesPrefix (fault_line (map string_bytes words.now) status) (K.taken err.old) (K.taken err.new)) }
-    ensures fault { OnErr result (Rose (K.faults err.old) (K.faults err.new)) }
-    ensures no_fault { OnOk result (K.faults err.new ≡ K.faults err.old) }
-    ensures puts { PutsAtMost (length (fault_pieces (map string_bytes words.now) status)) (K.puts err.old) (K.puts err.new) }
+/// Puts the fault line of the status (docs/commands.md), in pieces: the texts between words and numbers, and these. After a fault nothing more is put.
+pub(crate) fn put_fault_line<K: Sink>(words: &[String], status: Status, err: &mut K)
+    ensures { ArePut (fault_pieces (map string_bytes words.now) status) (seen (K.taken err.old) (K.faults err.old) (K.puts err.old)) (seen (K.taken err.new) (K.faults err.new) (K.puts err.new)) }
 {
     match status {
         Status::Ok => put_all(&[], err),
@@ -47,12 +37,8 @@ pub(crate) fn put_fault_line<K: Sink>(
     }
 }
 
-fn put_limit<K: Sink>(words: &[String], fault: LimitFault, err: &mut K) -> Result<(), SinkFault>
-    ensures whole { OnOk result (Takes (concat (limit_pieces (map string_bytes words.now) fault)) (K.taken err.old) (K.taken err.new)) }
-    ensures prefix { OnErr result (TakesPrefix (concat (limit_pieces (map string_bytes words.now) fault)) (K.taken err.old) (K.taken err.new)) }
-    ensures fault { OnErr result (Rose (K.faults err.old) (K.faults err.new)) }
-    ensures no_fault { OnOk result (K.faults err.new ≡ K.faults err.old) }
-    ensures puts { PutsAtMost (length (limit_pieces (map string_bytes words.now) fault)) (K.puts err.old) (K.puts err.new) }
+fn put_limit<K: Sink>(words: &[String], fault: LimitFault, err: &mut K)
+    ensures { ArePut (limit_pieces (map string_bytes words.now) fault) (seen (K.taken err.old) (K.faults err.old) (K.puts err.old)) (seen (K.taken err.new) (K.faults err.new) (K.puts err.new)) }
 {
     match fault {
         LimitFault::Bytes { word, limit } => put_all(
@@ -73,17 +59,8 @@ fn put_limit<K: Sink>(words: &[String], fault: LimitFault, err: &mut K) -> Resul
 }
 
 /// Puts a number between two texts.
-fn put_number<K: Sink>(
-    before: &[u8],
-    number: u64,
-    after: &[u8],
-    err: &mut K,
-) -> Result<(), SinkFault>
-    ensures whole { OnOk result (Takes (concat (before.now ∷ decimal number ∷ after.now ∷ [])) (K.taken err.old) (K.taken err.new)) }
-    ensures prefix { OnErr result (TakesPrefix (concat (before.now ∷ decimal number ∷ after.now ∷ [])) (K.taken err.old) (K.taken err.new)) }
-    ensures fault { OnErr result (Rose (K.faults err.old) (K.faults err.new)) }
-    ensures no_fault { OnOk result (K.faults err.new ≡ K.faults err.old) }
-    ensures puts { PutsAtMost (length (before.now ∷ decimal number ∷ after.now ∷ [])) (K.puts err.old) (K.puts err.new) }
+fn put_number<K: Sink>(before: &[u8], number: u64, after: &[u8], err: &mut K)
+    ensures { ArePut (before.now ∷ decimal number ∷ after.now ∷ []) (seen (K.taken err.old) (K.faults err.old) (K.puts err.old)) (seen (K.taken err.new) (K.faults err.new) (K.puts err.new)) }
 {
     put_all(
         &[before, Buffer::new().format(number).as_bytes(), after],
@@ -91,12 +68,8 @@ fn put_number<K: Sink>(
     )
 }
 
-fn put_image_fail<K: Sink>(fail: ImageFail, err: &mut K) -> Result<(), SinkFault>
-    ensures whole { OnOk result (Takes (concat (image_pieces fail)) (K.taken err.old) (K.taken err.new)) }
-    ensures prefix { OnErr result (TakesPrefix (concat (image_pieces fail)) (K.taken err.old) (K.taken err.new)) }
-    ensures fault { OnErr result (Rose (K.faults err.old) (K.faults err.new)) }
-    ensures no_fault { OnOk result (K.faults err.new ≡ K.faults err.old) }
-    ensures puts { PutsAtMost (length (image_pieces fail)) (K.puts err.old) (K.puts err.new) }
+fn put_image_fail<K: Sink>(fail: ImageFail, err: &mut K)
+    ensures { ArePut (image_pieces fail) (seen (K.taken err.old) (K.faults err.old) (K.puts err.old)) (seen (K.taken err.new) (K.faults err.new) (K.puts err.new)) }
 {
     match fail {
         ImageFail::BadMagic => put_all(&[b"image: bad magic\n"], err),
@@ -107,12 +80,8 @@ fn put_image_fail<K: Sink>(fail: ImageFail, err: &mut K) -> Result<(), SinkFault
     }
 }
 
-fn put_flaw<K: Sink>(flaw: Flaw, err: &mut K) -> Result<(), SinkFault>
-    ensures whole { OnOk result (Takes (concat (flaw_pieces flaw)) (K.taken err.old) (K.taken err.new)) }
-    ensures prefix { OnErr result (TakesPrefix (concat (flaw_pieces flaw)) (K.taken err.old) (K.taken err.new)) }
-    ensures fault { OnErr result (Rose (K.faults err.old) (K.faults err.new)) }
-    ensures no_fault { OnOk result (K.faults err.new ≡ K.faults err.old) }
-    ensures puts { PutsAtMost (length (flaw_pieces flaw)) (K.puts err.old) (K.puts err.new) }
+fn put_flaw<K: Sink>(flaw: Flaw, err: &mut K)
+    ensures { ArePut (flaw_pieces flaw) (seen (K.taken err.old) (K.faults err.old) (K.puts err.old)) (seen (K.taken err.new) (K.faults err.new) (K.puts err.new)) }
 {
     put_all(
         &[
@@ -142,12 +111,8 @@ fn flaw_text(kind: FlawKind) -> &'static [u8]
     }
 }
 
-fn put_script_fail<K: Sink>(fail: ScriptFail, err: &mut K) -> Result<(), SinkFault>
-    ensures whole { OnOk result (Takes (concat (script_pieces fail)) (K.taken err.old) (K.taken err.new)) }
-    ensures prefix { OnErr result (TakesPrefix (concat (script_pieces fail)) (K.taken err.old) (K.taken err.new)) }
-    ensures fault { OnErr result (Rose (K.faults err.old) (K.faults err.new)) }
-    ensures no_fault { OnOk result (K.faults err.new ≡ K.faults err.old) }
-    ensures puts { PutsAtMost (length (script_pieces fail)) (K.puts err.old) (K.puts err.new) }
+fn put_script_fail<K: Sink>(fail: ScriptFail, err: &mut K)
+    ensures { ArePut (script_pieces fail) (seen (K.taken err.old) (K.faults err.old) (K.puts err.old)) (seen (K.taken err.new) (K.faults err.new) (K.puts err.new)) }
 {
     match fail {
         ScriptFail::BadLine { line } => put_number(
@@ -179,17 +144,14 @@ fn word_at(words: &[String], word: usize) -> &[u8]
 }
 
 /// Puts the pieces up to the first fault.
-#[tactic(auto, using(tcel_io::specs::Pieces::pieces_of_a_text))]
-fn put_all<K: Sink>(pieces: &[&[u8]], sink: &mut K) -> Result<(), SinkFault>
-    ensures whole { OnOk result (Takes (concat (map (λ piece. piece.now) pieces.now)) (K.taken sink.old) (K.taken sink.new)) }
-    ensures prefix { OnErr result (TakesPrefix (concat (map (λ piece. piece.now) pieces.now)) (K.taken sink.old) (K.taken sink.new)) }
-    ensures fault { OnErr result (Rose (K.faults sink.old) (K.faults sink.new)) }
-    ensures no_fault { OnOk result (K.faults sink.new ≡ K.faults sink.old) }
-    ensures puts { PutsAtMost (length pieces.now) (K.puts sink.old) (K.puts sink.new) }
+fn put_all<K: Sink>(pieces: &[&[u8]], sink: &mut K)
+    ensures { ArePut (map (λ piece. piece.now) pieces.now) (seen (K.taken sink.old) (K.faults sink.old) (K.puts sink.old)) (seen (K.taken sink.new) (K.faults sink.new) (K.puts sink.new)) }
 {
     let Some((first, rest)) = pieces.split_first() else {
-        return Ok(());
+        return;
     };
-    sink.put(*first)?;
-    put_all(rest, sink)
+    match sink.put(*first) {
+        Ok(()) => put_all(rest, sink),
+        Err(_) => {}
+    }
 }

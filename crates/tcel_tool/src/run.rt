@@ -1,5 +1,7 @@
 ghost use Rattle.std.specs.Prelude.{◌≡◌, ◌+◌, ◌<◌, ◌≤◌, ◌^◌, ◌⊎◌, List, [], ◌∷◌, length, IsTrue, OnOk, OnErr, IfOk, IfErr, IfSome, Ok, Some};
-ghost use Rattle.tcel_io.specs.Count.{Rose, PutsAtMost};
+ghost use Rattle.std.specs.List.{concat};
+ghost use Rattle.tcel_io.specs.Count.{Rose};
+ghost use Rattle.tcel_io.specs.InTurn.{AreTaken, AreCutOff, seen};
 ghost use Rattle.tcel_io.specs.Load.{AddsLoads, Load};
 ghost use Rattle.tcel_io.specs.Reach.{ReachesWithin};
 ghost use Rattle.tcel_io.specs.Shelf.{TellsTheSame};
@@ -12,7 +14,7 @@ ghost use Rattle.tcel_image.specs.declared.image.Image.{Image};
 ghost use Rattle.tcel_machine.specs.Run.{loaded, after_tick};
 ghost use Rattle.tcel_script.specs.Script.{script_of};
 ghost use Rattle.tcel_tool.specs.Answer.{writes, load_of};
-ghost use Rattle.tcel_tool.specs.Lines.{lines, tick_line};
+ghost use Rattle.tcel_tool.specs.Lines.{lines, tick_lines};
 ghost use Rattle.tcel_tool.specs.RunAnswer.{AreRunLoads, IsImageIn, RefusesBytes, RefusesImage, RefusesLines, RefusesRun, RefusesScript, RunAnswers, Runs, both_run_loads, most_ticks, run_load};
 ghost use Rattle.tcel_trace.specs.Room.{HasRoom};
 ghost use Rattle.tcel_verify.specs.Ports.{port_rows};
@@ -43,12 +45,13 @@ pub(crate) fn run<H: Shelf, K: Sink>(
 ) -> Status
     ensures loads { (added : List Load) × AreRunLoads image.now script.now result added × AddsLoads added (H.loads shelf.old) (H.loads shelf.new) }
     ensures answer { RunAnswers (H.told shelf.old image.now) (H.told shelf.old script.now) ticks
-        (λ text. Takes text (K.taken out.old) (K.taken out.new))
-        (λ text. TakesPrefix text (K.taken out.old) (K.taken out.new)
-        × ReachesWithin text (K.taken out.old) (K.reach out.old) (K.reach out.new)) result }
+        (λ lines. Takes (concat lines) (K.taken out.old) (K.taken out.new)
+        × AreTaken lines (seen (K.taken out.old) (K.faults out.old) (K.puts out.old)) (seen (K.taken out.new) (K.faults out.new) (K.puts out.new)))
+        (λ lines. TakesPrefix (concat lines) (K.taken out.old) (K.taken out.new)
+        × ReachesWithin (concat lines) (K.taken out.old) (K.reach out.old) (K.reach out.new)
+        × AreCutOff lines (seen (K.taken out.old) (K.faults out.old) (K.puts out.old)) (seen (K.taken out.new) (K.faults out.new) (K.puts out.new))) result }
     ensures untouched { IsTrue (writes result) ⊎ (out.new ≡ out.old) }
     ensures fault { result ≡ Status.WriteFault → Rose (K.faults out.old) (K.faults out.new) }
-    ensures puts { PutsAtMost ticks (K.puts out.old) (K.puts out.new) }
 {
     match load_run(alloc, image, script, ticks, shelf) {
         Ok((machine, buffer)) => put_trace(machine, buffer, ticks, out),
@@ -59,12 +62,10 @@ pub(crate) fn run<H: Shelf, K: Sink>(
 fn put_trace<K: Sink>(mut machine: Machine, mut buffer: Buffer, ticks: u64, out: &mut K) -> Status
     requires short { machine.machine.now + ticks ≤ 10 ^ 12 }
     requires room { HasRoom buffer.room machine.image }
-    ensures ok { result ≡ Status.Ok → Takes (lines machine ticks) (K.taken out.old) (K.taken out.new) }
-    ensures prefix { TakesPrefix (lines machine ticks) (K.taken out.old) (K.taken out.new) }
+    ensures taken { result ≡ Status.Ok → AreTaken (lines machine ticks) (seen (K.taken out.old) (K.faults out.old) (K.puts out.old)) (seen (K.taken out.new) (K.faults out.new) (K.puts out.new)) }
+    ensures cut_off { result ≡ Status.WriteFault → AreCutOff (lines machine ticks) (seen (K.taken out.old) (K.faults out.old) (K.puts out.old)) (seen (K.taken out.new) (K.faults out.new) (K.puts out.new)) }
     ensures either { (result ≡ Status.Ok) ⊎ (result ≡ Status.WriteFault) }
-    ensures reach { ReachesWithin (lines machine ticks) (K.taken out.old) (K.reach out.old) (K.reach out.new) }
-    ensures fault { result ≡ Status.WriteFault → Rose (K.faults out.old) (K.faults out.new) }
-    ensures puts { PutsAtMost ticks (K.puts out.old) (K.puts out.new) }
+    ensures reach { ReachesWithin (concat (lines machine ticks)) (K.taken out.old) (K.reach out.old) (K.reach out.new) }
 {
     match put_lines(&mut machine, &mut buffer, ticks, out) {
         Ok(()) => Status::Ok,
@@ -81,11 +82,9 @@ fn put_lines<K: Sink>(
 ) -> Result<(), SinkFault>
     requires short { machine.old.machine.now + ticks ≤ 10 ^ 12 }
     requires room { HasRoom buffer.old.room machine.old.image }
-    ensures whole { OnOk result (Takes (lines machine.old ticks) (K.taken out.old) (K.taken out.new)) }
-    ensures prefix { OnErr result (TakesPrefix (lines machine.old ticks) (K.taken out.old) (K.taken out.new)) }
-    ensures reach { ReachesWithin (lines machine.old ticks) (K.taken out.old) (K.reach out.old) (K.reach out.new) }
-    ensures fault { OnErr result (Rose (K.faults out.old) (K.faults out.new)) }
-    ensures puts { PutsAtMost ticks (K.puts out.old) (K.puts out.new) }
+    ensures taken { OnOk result (AreTaken (lines machine.old ticks) (seen (K.taken out.old) (K.faults out.old) (K.puts out.old)) (seen (K.taken out.new) (K.faults out.new) (K.puts out.new))) }
+    ensures cut_off { OnErr result (AreCutOff (lines machine.old ticks) (seen (K.taken out.old) (K.faults out.old) (K.puts out.old)) (seen (K.taken out.new) (K.faults out.new) (K.puts out.new))) }
+    ensures reach { ReachesWithin (concat (lines machine.old ticks)) (K.taken out.old) (K.reach out.old) (K.reach out.new) }
 {
     let mut left = ticks;
     while left > 0 {
@@ -106,12 +105,9 @@ fn put_tick<K: Sink>(
     requires room { HasRoom buffer.old.room machine.old.image }
     ensures run { machine.new ≡ after_tick machine.old }
     ensures room { HasRoom buffer.new.room machine.old.image }
-    ensures whole { OnOk result (Takes (tick_line machine.old) (K.taken out.old) (K.taken out.new)) }
-    ensures prefix { OnErr result (TakesPrefix (tick_line machine.old) (K.taken out.old) (K.taken out.new)) }
-    ensures reach { ReachesWithin (tick_line machine.old) (K.taken out.old) (K.reach out.old) (K.reach out.new) }
-    ensures fault { OnErr result (Rose (K.faults out.old) (K.faults out.new)) }
-    ensures later { K.faults out.old ≤ K.faults out.new }
-    ensures puts { PutsAtMost 1 (K.puts out.old) (K.puts out.new) }
+    ensures taken { OnOk result (AreTaken (tick_lines machine.old) (seen (K.taken out.old) (K.faults out.old) (K.puts out.old)) (seen (K.taken out.new) (K.faults out.new) (K.puts out.new))) }
+    ensures cut_off { OnErr result (AreCutOff (tick_lines machine.old) (seen (K.taken out.old) (K.faults out.old) (K.puts out.old)) (seen (K.taken out.new) (K.faults out.new) (K.puts out.new))) }
+    ensures reach { ReachesWithin (concat (tick_lines machine.old)) (K.taken out.old) (K.reach out.old) (K.reach out.new) }
 {
     match machine.tick() {
         None => Ok(()),

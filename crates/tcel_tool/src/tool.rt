@@ -1,5 +1,7 @@
 ghost use Rattle.std.specs.Prelude.{◌≡◌, ◌↔◌, ◌⊎◌, ℕ, List, ◌++◌, map, length, string_bytes, IsTrue, IfSome, Some};
+ghost use Rattle.std.specs.List.{concat};
 ghost use Rattle.tcel_io.specs.Count.{Rose, PutsAtMost};
+ghost use Rattle.tcel_io.specs.InTurn.{AreTaken, AreCutOff, ArePut, seen};
 ghost use Rattle.tcel_io.specs.Load.{AddsLoads, Load};
 ghost use Rattle.tcel_io.specs.Reach.{ReachesWithin};
 ghost use Rattle.tcel_io.specs.Taken.{Takes, TakesPrefix};
@@ -40,9 +42,11 @@ pub fn tcel<H: Shelf, K: Sink>(
         → (added : List Load) × AreRunLoads (word_at texts 1) (word_at texts 2) result added × AddsLoads added (H.loads shelf.old) (H.loads shelf.new) }
     ensures run_answer { let texts = map string_bytes words.now in (ticks : ℕ) → IsRun texts ticks
         → RunAnswers (H.told shelf.old (word_at texts 1)) (H.told shelf.old (word_at texts 2)) ticks
-        (λ text. Takes text (K.taken out.old) (K.taken out.new))
-        (λ text. TakesPrefix text (K.taken out.old) (K.taken out.new)
-        × ReachesWithin text (K.taken out.old) (K.reach out.old) (K.reach out.new)) result }
+        (λ lines. Takes (concat lines) (K.taken out.old) (K.taken out.new)
+        × AreTaken lines (seen (K.taken out.old) (K.faults out.old) (K.puts out.old)) (seen (K.taken out.new) (K.faults out.new) (K.puts out.new)))
+        (λ lines. TakesPrefix (concat lines) (K.taken out.old) (K.taken out.new)
+        × ReachesWithin (concat lines) (K.taken out.old) (K.reach out.old) (K.reach out.new)
+        × AreCutOff lines (seen (K.taken out.old) (K.faults out.old) (K.puts out.old)) (seen (K.taken out.new) (K.faults out.new) (K.puts out.new))) result }
     ensures no_loads { result ≡ Status.Words → H.loads shelf.new ≡ H.loads shelf.old }
 
     // After Ok out took the image of the program's set, and every run of this image meets the program.
@@ -53,16 +57,16 @@ pub fn tcel<H: Shelf, K: Sink>(
     ensures untouched { IsTrue (writes result) ⊎ (out.new ≡ out.old) }
     ensures fault { result ≡ Status.WriteFault → Rose (K.faults out.old) (K.faults out.new) }
     ensures puts { IsCompile (map string_bytes words.now) → PutsAtMost 1 (K.puts out.old) (K.puts out.new) }
-    ensures run_puts { (ticks : ℕ) → IsRun (map string_bytes words.now) ticks → PutsAtMost ticks (K.puts out.old) (K.puts out.new) }
 
     // The fault line, whole unless err has a fault.
     ensures line { Rose (K.faults err.old) (K.faults err.new)
         ⊎ Takes (fault_line (map string_bytes words.now) result) (K.taken err.old) (K.taken err.new) }
     ensures line_prefix { TakesPrefix (fault_line (map string_bytes words.now) result) (K.taken err.old) (K.taken err.new) }
-    ensures line_puts { PutsAtMost (length (fault_pieces (map string_bytes words.now) result)) (K.puts err.old) (K.puts err.new) }
+    ensures line_pieces { ArePut (fault_pieces (map string_bytes words.now) result)
+        (seen (K.taken err.old) (K.faults err.old) (K.puts err.old)) (seen (K.taken err.new) (K.faults err.new) (K.puts err.new)) }
 {
     let status = answer(alloc, words, shelf, out);
-    let _ = put_fault_line(words, status, err);
+    put_fault_line(words, status, err);
     status
 }
 
@@ -79,14 +83,15 @@ fn answer<H: Shelf, K: Sink>(alloc: Global, words: &[String], shelf: &mut H, out
         → (added : List Load) × AreRunLoads (word_at texts 1) (word_at texts 2) result added × AddsLoads added (H.loads shelf.old) (H.loads shelf.new) }
     ensures run_answer { let texts = map string_bytes words.now in (ticks : ℕ) → IsRun texts ticks
         → RunAnswers (H.told shelf.old (word_at texts 1)) (H.told shelf.old (word_at texts 2)) ticks
-        (λ text. Takes text (K.taken out.old) (K.taken out.new))
-        (λ text. TakesPrefix text (K.taken out.old) (K.taken out.new)
-        × ReachesWithin text (K.taken out.old) (K.reach out.old) (K.reach out.new)) result }
+        (λ lines. Takes (concat lines) (K.taken out.old) (K.taken out.new)
+        × AreTaken lines (seen (K.taken out.old) (K.faults out.old) (K.puts out.old)) (seen (K.taken out.new) (K.faults out.new) (K.puts out.new)))
+        (λ lines. TakesPrefix (concat lines) (K.taken out.old) (K.taken out.new)
+        × ReachesWithin (concat lines) (K.taken out.old) (K.reach out.old) (K.reach out.new)
+        × AreCutOff lines (seen (K.taken out.old) (K.faults out.old) (K.puts out.old)) (seen (K.taken out.new) (K.faults out.new) (K.puts out.new))) result }
     ensures no_loads { result ≡ Status.Words → H.loads shelf.new ≡ H.loads shelf.old }
     ensures untouched { IsTrue (writes result) ⊎ (out.new ≡ out.old) }
     ensures fault { result ≡ Status.WriteFault → Rose (K.faults out.old) (K.faults out.new) }
     ensures puts { IsCompile (map string_bytes words.now) → PutsAtMost 1 (K.puts out.old) (K.puts out.new) }
-    ensures run_puts { (ticks : ℕ) → IsRun (map string_bytes words.now) ticks → PutsAtMost ticks (K.puts out.old) (K.puts out.new) }
 {
     if is_compile(words) {
         compile(alloc, words[1].as_str(), words[2].as_str(), shelf, out)
@@ -107,13 +112,14 @@ fn run_of_words<H: Shelf, K: Sink>(
         → (added : List Load) × AreRunLoads (word_at texts 1) (word_at texts 2) result added × AddsLoads added (H.loads shelf.old) (H.loads shelf.new) }
     ensures run_answer { let texts = map string_bytes words.now in (ticks : ℕ) → IsRun texts ticks
         → RunAnswers (H.told shelf.old (word_at texts 1)) (H.told shelf.old (word_at texts 2)) ticks
-        (λ text. Takes text (K.taken out.old) (K.taken out.new))
-        (λ text. TakesPrefix text (K.taken out.old) (K.taken out.new)
-        × ReachesWithin text (K.taken out.old) (K.reach out.old) (K.reach out.new)) result }
+        (λ lines. Takes (concat lines) (K.taken out.old) (K.taken out.new)
+        × AreTaken lines (seen (K.taken out.old) (K.faults out.old) (K.puts out.old)) (seen (K.taken out.new) (K.faults out.new) (K.puts out.new)))
+        (λ lines. TakesPrefix (concat lines) (K.taken out.old) (K.taken out.new)
+        × ReachesWithin (concat lines) (K.taken out.old) (K.reach out.old) (K.reach out.new)
+        × AreCutOff lines (seen (K.taken out.old) (K.faults out.old) (K.puts out.old)) (seen (K.taken out.new) (K.faults out.new) (K.puts out.new))) result }
     ensures no_loads { result ≡ Status.Words → H.loads shelf.new ≡ H.loads shelf.old }
     ensures untouched { IsTrue (writes result) ⊎ (out.new ≡ out.old) }
     ensures fault { result ≡ Status.WriteFault → Rose (K.faults out.old) (K.faults out.new) }
-    ensures run_puts { (ticks : ℕ) → IsRun (map string_bytes words.now) ticks → PutsAtMost ticks (K.puts out.old) (K.puts out.new) }
 {
     let Some(ticks) = ticks_of(words) else {
         return Status::Words;

@@ -1,7 +1,7 @@
 use Rattle.tcel_tool.proofs.fault_line.put_fault_line.Goals as goal
 
-pub returns-in-Overload-clause-whole : goal.returns-in-Overload-clause-whole
-returns-in-Overload-clause-whole g c =
+pub returns-in-Overload : goal.returns-in-Overload
+returns-in-Overload g c =
     rw (
       c.in-Overload.is,
       ← c.format.ensures.text,
@@ -9,16 +9,10 @@ returns-in-Overload-clause-whole g c =
       ← c.format-in-Overload.ensures.text,
       ← c.as_bytes-in-Overload.ensures.value,
     )
-    c.put_all-in-Overload.ensures.whole
+    c.put_all-in-Overload.ensures
 
-pub returns-in-Words-clause-whole : goal.returns-in-Words-clause-whole
-returns-in-Words-clause-whole g c = rw c.in-Words.is c.put_all-in-Words.ensures.whole
+pub returns-in-ReadFault : goal.returns-in-ReadFault
+returns-in-ReadFault g c = rw (c.in-ReadFault.is, ← c.word_at.ensures) c.put_all-in-ReadFault.ensures
 
-pub returns-in-ReadFault-clause-whole : goal.returns-in-ReadFault-clause-whole
-returns-in-ReadFault-clause-whole g c = rw (c.in-ReadFault.is, ← c.word_at.ensures) c.put_all-in-ReadFault.ensures.whole
-
-pub returns-in-WriteFault-clause-whole : goal.returns-in-WriteFault-clause-whole
-returns-in-WriteFault-clause-whole g c = rw c.in-WriteFault.is c.put_all-in-WriteFault.ensures.whole
-
-pub returns-in-NoMemory-clause-whole : goal.returns-in-NoMemory-clause-whole
-returns-in-NoMemory-clause-whole g c = rw c.in-NoMemory.is c.put_all-in-NoMemory.ensures.whole
+pub returns-in-Beyond : goal.returns-in-Beyond
+returns-in-Beyond g c = rw (c.in-Beyond.is, ← c.word_at-in-Beyond.ensures) c.put_all-in-Beyond.ensures

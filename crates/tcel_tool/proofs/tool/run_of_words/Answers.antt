@@ -1,6 +1,7 @@
 use Rattle.std.proofs.Common.{◌≡◌, ℕ, List, refl, sym, ◌∙◌, subst, length, arith}
 use Rattle.std.specs.Prelude.{string_bytes, map}
-use Rattle.tcel_io.specs.Count.{PutsAtMost}
+use Rattle.std.specs.List.{concat}
+use Rattle.tcel_io.specs.InTurn.{AreTaken, AreCutOff, seen}
 use Rattle.tcel_io.specs.Reach.{ReachesWithin}
 use Rattle.tcel_io.specs.Taken.{Takes, TakesPrefix}
 use Rattle.tcel_tool.specs.FaultLine.{word_at}
@@ -45,10 +46,11 @@ pub returns-clause-run_answer : goal.returns-clause-run_answer
 returns-clause-run_answer g c =
     let texts = map string_bytes c.args.words.now in
     let told = g.H.Shelf.told c.args.shelf.now in
-    let before = g.K.Sink.taken c.args.out.now in
-    let now = g.K.Sink.taken c.run.new.out in
-    let whole = λ (text : List ℕ). Takes text before now in
-    let part = λ (text : List ℕ). TakesPrefix text before now × ReachesWithin text before (g.K.Sink.reach c.args.out.now) (g.K.Sink.reach c.run.new.out) in
+    let old = seen (g.K.Sink.taken c.args.out.now) (g.K.Sink.faults c.args.out.now) (g.K.Sink.puts c.args.out.now) in
+    let new = seen (g.K.Sink.taken c.run.new.out) (g.K.Sink.faults c.run.new.out) (g.K.Sink.puts c.run.new.out) in
+    let whole = λ (lines : List (List ℕ)). Takes (concat lines) old.taken new.taken × AreTaken lines old new in
+    let part = λ (lines : List (List ℕ)). TakesPrefix (concat lines) old.taken new.taken
+    × ReachesWithin (concat lines) old.taken (g.K.Sink.reach c.args.out.now) (g.K.Sink.reach c.run.new.out) × AreCutOff lines old new in
     let four : length c.args.words.now ≡ 4 = c.in-Some.ensures.four in
     let image : word_at texts 1 ≡ c.as_str.result.now =
     word_is string_bytes c.args.words.now 1 c.index-words-1.result (omega arith) (sym c.index-words-1.is) ∙ sym c.as_str.ensures.value in
@@ -58,9 +60,3 @@ returns-clause-run_answer g c =
     subst (λ n. RunAnswers (told (word_at texts 1)) (told (word_at texts 2)) n whole part c.run.result) (of_no_other (IsRun texts) c.in-Some.ticks ticks c.in-Some.ensures.exact h)
     (subst (λ p. RunAnswers (told p) (told (word_at texts 2)) c.in-Some.ticks whole part c.run.result) (sym image)
     (subst (λ t. RunAnswers (told c.as_str.result.now) (told t) c.in-Some.ticks whole part c.run.result) (sym script) c.run.ensures.answer))
-
-pub returns-clause-run_puts : goal.returns-clause-run_puts
-returns-clause-run_puts g c =
-    λ ticks h.
-    subst (λ n. PutsAtMost n (g.K.Sink.puts c.args.out.now) (g.K.Sink.puts c.run.new.out))
-    (of_no_other (IsRun (map string_bytes c.args.words.now)) c.in-Some.ticks ticks c.in-Some.ensures.exact h) c.run.ensures.puts
