@@ -1,5 +1,5 @@
 -- The dues of events.
-use Rattle.std.proofs.Common.{◌≡◌, ℕ, suc, ◌+◌, ◌≤◌, false, Bool, List, [], ◌∷◌, ◌++◌, length, refl, ap, arith}
+use Rattle.std.proofs.Common.{◌≡◌, ℕ, ◌+◌, ◌≤◌, false, Bool, List, [], ◌∷◌, ◌++◌, length, refl, ap, arith}
 use Rattle.std.specs.Prelude.{max, unwrap_or}
 use Rattle.tcel_core.specs.Language.{Window}
 use Rattle.tcel_core.specs.Outcome.{Occurrence, enclosed}

@@ -1,7 +1,5 @@
 -- What the demand of one task says of its plan.
-use Rattle.std.proofs.Common.{◌≡◌, ℕ, zero, suc, ◌+◌, ◌*◌, ◌/◌, ◌<◌, ◌≤◌, List, [], ◌∷◌, refl, sym, ap, ◌∙◌, subst, arith, All}
-use Rattle.std.proofs.lemmas.List.Elements.{All-nil, All-cons, All-head}
-use Rattle.std.proofs.Math.Nat.{div_self}
+use Rattle.std.proofs.Common.{◌≡◌, ℕ, ◌<◌, ◌≤◌, List, [], ◌∷◌, ap, ◌∙◌, subst, arith}
 use Rattle.tcel_num.specs.Plan.{Plan}
 use Rattle.tcel_core.specs.Language.{Task}
 use Rattle.tcel_image.specs.declared.costs.Costs.{Costs}

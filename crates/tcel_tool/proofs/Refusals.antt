@@ -1,7 +1,6 @@
 -- How the stages of `compile` refuse, one after another.
-use Rattle.std.proofs.Common.{◌≡◌, ◌≢◌, ℕ, ◌+◌, ◌<◌, ◌≤◌, List, [], ◌∷◌, ◌++◌, Option, Some, None, refl, sym, ap, ◌∙◌, subst, zero, suc, ◌*◌, ◌/◌, inl, inr, length, append_assoc, append-nil, arith, ◌⊎◌}
+use Rattle.std.proofs.Common.{◌≡◌, ◌≢◌, ℕ, ◌+◌, ◌<◌, ◌≤◌, List, [], ◌∷◌, ◌++◌, Option, refl, sym, ap, ◌∙◌, subst, inl, inr, length, append_assoc, append-nil, arith, ◌⊎◌}
 use Rattle.std.specs.Prelude.{IfSome}
-use Rattle.std.proofs.lemmas.List.Elements.{All-from_recursion, recursion_from_All}
 use Rattle.tcel_num.specs.Plan.{Plan}
 use Rattle.tcel_num.proofs.Hyperperiods.{own_hyperperiod, own_demand}
 use Rattle.tcel_tool.specs.PlainTree.{IsPlain}
@@ -13,9 +12,8 @@ use Rattle.tcel_io.specs.declared.loaded.Outcome.TheVariants.{Done, Fault, TooLo
 use Rattle.tcel_tool.specs.declared.plain_tree.PlainTree.{PlainTree}
 use Rattle.tcel_tool.specs.declared.status.Status.{Status}
 use Rattle.tcel_tool.specs.declared.status.Status.TheVariants as statuses
-use Rattle.tcel_tool.specs.declared.status.LimitFault.{LimitFault}
 use Rattle.tcel_tool.specs.declared.status.LimitFault.TheVariants as limits
-use Rattle.tcel_tool.specs.Answer.{Accepts, Answers, AreLoads, Compiles, Demands, Overloads, HasOtherTarget, IsLateRefusal, IsLoadRefusal, Refuses, RefusesTarget, both_loads, load_of, program_limit, target_limit, program_load, target_load, unit_target}
+use Rattle.tcel_tool.specs.Answer.{Accepts, Answers, Compiles, Demands, Overloads, IsLateRefusal, IsLoadRefusal, Refuses, RefusesTarget, both_loads, load_of, program_limit, target_limit, program_load, target_load, unit_target}
 
 -- the program can't be loaded
 pub refused_program : (program target : List ℕ) (told : List ℕ → Option (List ℕ)) (old new : List Load) (status : Status)

@@ -3,7 +3,7 @@ use Rattle.std.proofs.Common.{◌≡◌, ◌⊎◌, inl, inr, Option, ◌<◌, �
 use Rattle.std.specs.Prelude.{OnErr, option_to_list}
 use Rattle.tcel_image.specs.Machine.{Streams, entries}
 use Rattle.tcel_image.specs.declared.image.Image.{Image}
-use Rattle.tcel_image.specs.TraceText.{line, text}
+use Rattle.tcel_image.specs.TraceText.{line}
 use Rattle.tcel_machine.specs.Run.{Run, after_tick, loaded, tick_of}
 use Rattle.tcel_tool.specs.RunAnswer.{RunAnswers, Runs, most_ticks}
 use Rattle.tcel_tool.specs.declared.status.Status.{Status}

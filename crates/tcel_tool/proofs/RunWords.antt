@@ -1,5 +1,5 @@
 -- The words of `run`.
-use Rattle.std.proofs.Common.{◌≡◌, refl, ℕ, List, [], ◌∷◌, length, Option, Some, None, subst, sym, ap, arith}
+use Rattle.std.proofs.Common.{◌≡◌, refl, ℕ, List, length, Option, Some, None, subst, ap, arith}
 use Rattle.tcel_io.specs.Load.{Load}
 use Rattle.tcel_tool.specs.declared.status.Status.{Status}
 use Rattle.tcel_tool.specs.declared.status.Status.TheVariants as statuses

@@ -1,14 +1,12 @@
 -- The words of a task's states, in its image and in its frames.
-use Rattle.std.proofs.Common.{◌≡◌, ℕ, ◌+◌, ◌-◌, ◌≤◌, Bool, true, false, cond, ℤ, pos, List, [], ◌∷◌, ◌++◌, length, map, refl, sym, ap, ◌∙◌, arith, length-append}
-use Rattle.std.specs.Prelude.{filter, take, replicate}
+use Rattle.std.proofs.Common.{◌≡◌, ℕ, ◌+◌, cond, List, [], ◌∷◌, ◌++◌, map, refl, sym, ap, ◌∙◌, arith}
+use Rattle.std.specs.Prelude.{filter}
 use Rattle.std.specs.List.{flat_map}
 use Rattle.std.proofs.lemmas.Bool.{cond_both}
-use Rattle.std.proofs.lemmas.List.{length-replicate, length-take-le}
 use Rattle.std.proofs.lemmas.List.Sums.{sum_by-cons}
 use Rattle.tcel_core.specs.declared.var.Var.{Var}
-use Rattle.tcel_core.specs.declared.var.VarKind.{VarKind}
-use Rattle.tcel_core.specs.Cells.{words_of, all_words}
-use Rattle.tcel_core.specs.Frames.{is_state, first_words, declared_state, state_words, start_cells}
+use Rattle.tcel_core.specs.Cells.{words_of}
+use Rattle.tcel_core.specs.Frames.{is_state, first_words, declared_state, state_words}
 use Rattle.tcel_image.specs.declared.image.ImageState.{ImageState}
 use Rattle.tcel_image.specs.Spelling.{state_words as image_words}
 use Rattle.tcel_tool.specs.Layout.{state_of, states_of}

@@ -1,10 +1,8 @@
 -- The plan of straight code: it has one walk.
-use Rattle.std.proofs.Common.{◌≡◌, ℕ, zero, suc, ◌+◌, ◌*◌, ◌/◌, ◌<◌, ◌≤◌, List, [], ◌∷◌, ◌++◌, refl, sym, ap, ◌∙◌, subst, arith}
+use Rattle.std.proofs.Common.{◌≡◌, ℕ, ◌+◌, List, [], ◌∷◌, ◌++◌, refl, sym, ap, subst, arith}
 use Rattle.std.proofs.lemmas.List.Sums.{sum_by-cons}
 use Rattle.tcel_num.specs.declared.op.Op.{Op}
 use Rattle.tcel_num.specs.declared.op.Op.TheVariants as ops
-use Rattle.tcel_num.specs.Plan.{Plan, Point}
-use Rattle.tcel_core.specs.declared.var.Var.{Var}
 use Rattle.tcel_image.specs.Examples.{unit_costs}
 use Rattle.tcel_image.specs.Instructions.{operator_cycles}
 use Rattle.tcel_tool.specs.declared.plain_tree.PlainDecl.{PlainDecl}

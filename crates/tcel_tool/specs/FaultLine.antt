@@ -13,7 +13,6 @@ use Rattle.tcel_tool.specs.declared.status.Status.{Status}
 use Rattle.tcel_tool.specs.declared.status.Status.TheVariants as statuses
 use Rattle.tcel_tool.specs.declared.status.LimitFault.{LimitFault}
 use Rattle.tcel_tool.specs.declared.status.LimitFault.TheVariants as limits
-use Rattle.tcel_tool.specs.declared.status.CountKind.{CountKind}
 use Rattle.tcel_tool.specs.declared.status.CountKind.TheVariants.{Ticks}
 
 -- the word of this number, or the empty text where there is none

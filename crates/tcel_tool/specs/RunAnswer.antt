@@ -1,5 +1,5 @@
 -- What a call of `run` answers, and what it does to its files and streams.
-use Rattle.std.specs.Prelude.{◌≡◌, ℕ, ◌+◌, ◌-◌, ◌*◌, ◌<◌, ◌≤◌, ◌⊎◌, ◌&&◌, nat_lt, nat_le, if◌then◌else◌, List, [], ◌∷◌, Option, Some, None, Err, Ok, IfSome, length, codes}
+use Rattle.std.specs.Prelude.{◌≡◌, ℕ, ◌<◌, ◌≤◌, ◌⊎◌, ◌&&◌, nat_lt, nat_le, if◌then◌else◌, List, [], ◌∷◌, Option, Some, None, Err, Ok, IfSome, length, codes}
 use Rattle.std.specs.List.{list_all}
 use Rattle.std.specs.Char.{is_ascii_digit}
 use Rattle.tcel_io.specs.Load.{Load, AddsLoads}
@@ -16,9 +16,7 @@ use Rattle.tcel_script.specs.Script.{script_of}
 use Rattle.tcel_verify.specs.Ports.{port_rows}
 use Rattle.tcel_tool.specs.declared.status.Status.{Status}
 use Rattle.tcel_tool.specs.declared.status.Status.TheVariants as statuses
-use Rattle.tcel_tool.specs.declared.status.LimitFault.{LimitFault}
 use Rattle.tcel_tool.specs.declared.status.LimitFault.TheVariants as limits
-use Rattle.tcel_tool.specs.declared.status.CountKind.{CountKind}
 use Rattle.tcel_tool.specs.Answer.{load_of, IsCompile, IsLoadRefusal}
 use Rattle.tcel_tool.specs.FaultLine.{word_at}
 

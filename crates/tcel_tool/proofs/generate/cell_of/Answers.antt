@@ -1,4 +1,4 @@
-use Rattle.std.proofs.Common.{◌≡◌, ◌≤◌, length, sym, ◌∙◌, arith}
+use Rattle.std.proofs.Common.{sym, ◌∙◌, arith}
 use Rattle.tcel_tool.specs.PlainTree.{variable_names, index_of}
 use Rattle.tcel_tool.proofs.Places.{position_there, position_is, variables-most, place-vars}
 use Rattle.tcel_tool.proofs.generate.cell_of.Goals as goal

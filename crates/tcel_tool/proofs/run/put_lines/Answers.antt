@@ -1,4 +1,4 @@
-use Rattle.std.proofs.Common.{◌≡◌, ◌+◌, ◌-◌, ◌<◌, ℕ, List, subst, sym, ap, arith}
+use Rattle.std.proofs.Common.{◌≡◌, ◌+◌, ◌-◌, ◌<◌, subst, sym, ap, arith}
 use Rattle.tcel_io.specs.Count.{PutsAtMost, PutsAtMost-append}
 use Rattle.tcel_io.specs.Reach.{ReachesWithin, ReachesWithin-append, ReachesWithin-more}
 use Rattle.tcel_io.specs.Taken.{Takes, Takes-append, TakesPrefix, TakesPrefix-append, TakesPrefix-more}

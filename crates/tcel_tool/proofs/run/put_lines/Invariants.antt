@@ -1,4 +1,4 @@
-use Rattle.std.proofs.Common.{◌≡◌, ◌≤◌, ◌+◌, ◌^◌, ℕ, List, Option}
+use Rattle.std.proofs.Common.{◌≤◌, ◌+◌, ◌^◌, ℕ, List, Option}
 use Rattle.tcel_io.specs.Count.{PutsAtMost}
 use Rattle.tcel_io.specs.Reach.{ReachesWithin}
 use Rattle.tcel_io.specs.Taken.{Takes, TakesPrefix}

@@ -1,4 +1,4 @@
-use Rattle.std.proofs.Common.{◌≡◌, ◌<◌, ℕ, List, length, sym, ◌∙◌, subst, arith}
+use Rattle.std.proofs.Common.{◌≡◌, ℕ, List, length, sym, ◌∙◌, subst, arith}
 use Rattle.std.specs.Prelude.{string_bytes, map}
 use Rattle.tcel_io.specs.Reach.{ReachesWithin}
 use Rattle.tcel_io.specs.Taken.{Takes, TakesPrefix}
