@@ -16,6 +16,7 @@ pub mod PlainMeets
 pub mod Options
 pub mod Places
 pub mod Straight
+pub mod ImagesInRange
 pub mod CommandWords
 pub mod Refusals
 pub mod StraightPlans

@@ -7,9 +7,10 @@ use Rattle.tcel_num.specs.Hyperperiod.{IsHyperperiod, demand}
 use Rattle.tcel_num.proofs.Hyperperiods.{only_hyperperiod, own_demand}
 use Rattle.tcel_tool.specs.WholePlan.{IsWholePlan, AreWholePlans}
 use Rattle.tcel_tool.specs.declared.plain_tree.PlainTree.{PlainTree}
-use Rattle.tcel_tool.specs.PlainTree.{IsPlain, task_of, set_of}
+use Rattle.tcel_tool.specs.PlainTree.{IsPlain, IsWritable, task_of, set_of}
 use Rattle.tcel_tool.specs.Headline.{KeepsItsPromise}
 use Rattle.tcel_image.specs.Costs.{CostsInRange}
+use Rattle.tcel_tool.proofs.ImagesInRange.{image_in_range}
 use Rattle.tcel_tool.proofs.PlainMeets.{plain_programs_meet}
 
 -- the plan of the only task
@@ -22,9 +23,9 @@ only_plan : (task : Task) (costs : Costs) (plans : List Plan) → AreWholePlans 
 only_plan task costs [] h = absurd h
 only_plan task costs (plan ∷ plans) h = record { plan = plan; whole = h.0; alone = ap (λ (others : List Plan). plan ∷ others) h.1 }
 
--- a plain program whose demand fits its hyperperiod keeps its promise
-pub promise : (tree : PlainTree) (costs : Costs) (plans : List Plan) (hyper : ℕ) → IsPlain tree → CostsInRange costs → AreWholePlans (set_of tree) costs plans → IsHyperperiod plans hyper → demand plans hyper ≤ hyper → KeepsItsPromise tree costs
-promise tree costs plans hyper plain range whole period fits =
+-- a plain program that can be written, and whose demand fits its hyperperiod, keeps its promise
+pub promise : (tree : PlainTree) (costs : Costs) (plans : List Plan) (hyper : ℕ) → IsPlain tree → IsWritable tree → CostsInRange costs → AreWholePlans (set_of tree) costs plans → IsHyperperiod plans hyper → demand plans hyper ≤ hyper → KeepsItsPromise tree costs
+promise tree costs plans hyper plain writable range whole period fits =
     let only = only_plan (task_of tree) costs plans whole in
     let plan = only.plan in
     let positive : 0 < plan.period = omega (arith, only.whole.period, plain.period.0) in
@@ -32,6 +33,7 @@ promise tree costs plans hyper plain range whole period fits =
     let total = ap (demand (plan ∷ [])) repeats ∙ own_demand plan positive in
     let few : demand (plan ∷ []) hyper ≤ hyper = subst (λ (ps : List Plan). demand ps hyper ≤ hyper) only.alone fits in
     record {
+      spelled = image_in_range tree costs plain writable range;
       plan = plan;
       whole = only.whole;
       runs = plain_programs_meet tree costs plan plain range only.whole (omega arith);

@@ -8,7 +8,7 @@ use Rattle.tcel_core.specs.Frames.{is_state}
 use Rattle.tcel_image.specs.declared.costs.Costs.{Costs}
 use Rattle.tcel_image.specs.declared.costs.CostKey.{CostKey}
 use Rattle.tcel_image.specs.declared.costs.CostKey.TheVariants as keys
-use Rattle.tcel_image.specs.Costs.{cost_of}
+use Rattle.tcel_image.specs.Costs.{cost_of, CostsInRange, IsCost}
 use Rattle.tcel_image.specs.Examples.{unit_costs}
 use Rattle.tcel_image.specs.declared.image.ImageState.{ImageState}
 use Rattle.tcel_image.specs.declared.image.Line.{Line}
@@ -57,6 +57,27 @@ pub states_of_vars : (decls : List PlainDecl) → states_of (vars_of decls) ≡ 
 states_of_vars decls = states_both (names_of kinds.State decls) (names_of kinds.Local decls)
 
 -- ---- costs
+
+unit_cost : IsCost 1
+unit_cost = (omega arith, omega arith)
+
+-- each cost is in its range
+pub unit_range : CostsInRange unit_costs
+unit_range keys.Const = unit_cost
+unit_range keys.Load = unit_cost
+unit_range keys.Store = unit_cost
+unit_range keys.LoadAt = unit_cost
+unit_range keys.StoreAt = unit_cost
+unit_range keys.Arith = unit_cost
+unit_range keys.Multiply = unit_cost
+unit_range keys.Divide = unit_cost
+unit_range keys.Jump = unit_cost
+unit_range keys.Branch = unit_cost
+unit_range keys.Loop = unit_cost
+unit_range keys.Receive = unit_cost
+unit_range keys.Send = unit_cost
+unit_range keys.Mark = unit_cost
+unit_range keys.End = unit_cost
 
 made : (a b c d e f g h i j k l m n o : ℕ) → a ≡ 1 → b ≡ 1 → c ≡ 1 → d ≡ 1 → e ≡ 1 → f ≡ 1 → g ≡ 1 → h ≡ 1 → i ≡ 1 → j ≡ 1 → k ≡ 1 → l ≡ 1 → m ≡ 1 → n ≡ 1 → o ≡ 1
     → (let table : Costs =

@@ -5,8 +5,7 @@ use Rattle.tcel_io.specs.Load.{Load, AddsLoads}
 use Rattle.tcel_io.specs.declared.loaded.Outcome.{Outcome}
 use Rattle.tcel_io.specs.declared.loaded.Outcome.TheVariants.{Done, Fault, TooLong}
 use Rattle.tcel_image.specs.Examples.{unit_costs}
-use Rattle.tcel_image.specs.declared.image.Image.{Image}
-use Rattle.tcel_image.specs.Spelling.{spelling, InRange}
+use Rattle.tcel_image.specs.Spelling.{spelling}
 use Rattle.tcel_tool.specs.declared.plain_tree.PlainTree.{PlainTree}
 use Rattle.tcel_tool.specs.declared.status.Status.{Status}
 use Rattle.tcel_tool.specs.declared.status.Status.TheVariants as statuses
@@ -15,7 +14,7 @@ use Rattle.tcel_tool.specs.CanonicalText.{text_of}
 use Rattle.tcel_tool.specs.FaultLine.{word_at}
 use Rattle.tcel_num.specs.Hyperperiod.{IsHyperperiod, demand}
 use Rattle.tcel_tool.specs.Layout.{image_of}
-use Rattle.tcel_tool.specs.PlainTree.{IsPlain, set_of}
+use Rattle.tcel_tool.specs.PlainTree.{IsPlain, IsWritable, set_of}
 use Rattle.tcel_tool.specs.StraightPlan.{body_cycles}
 use Rattle.tcel_tool.specs.WholePlan.{AreWholePlans}
 
@@ -78,9 +77,10 @@ abbrev pub unit_target : List ℕ
 unit_target =
     codes "const = 1\nload = 1\nstore = 1\nload_at = 1\nstore_at = 1\narith = 1\nmultiply = 1\ndivide = 1\njump = 1\nbranch = 1\nloop = 1\nreceive = 1\nsend = 1\nmark = 1\nend = 1\n"
 
--- the program's bytes, where they are told, are the canonical text of this plain tree
+-- the program's bytes, where they are told, are the canonical text of this plain tree, whose names are names and whose numbers fit 64 bits
 pub record Accepts (program : Option (List ℕ)) (tree : PlainTree) : Type 0 where
   pub plain : IsPlain tree
+  pub writable : IsWritable tree
   pub text : IfSome program (λ bytes. bytes ≡ text_of tree)
 
 -- the frames of a hyperperiod ask for so many cycles
@@ -93,11 +93,6 @@ pub record Demands (tree : PlainTree) (cycles hyper : ℕ) : Type 0 where
 -- the bytes of the image of the tree's set
 abbrev pub image_bytes : PlainTree → List ℕ
 image_bytes tree = spelling (image_of (set_of tree) unit_costs)
-
--- the image of the tree's set, which has a spelling
-pub record IsImageOf (tree : PlainTree) (image : Image) : Type 0 where
-  pub exact : image ≡ image_of (set_of tree) unit_costs
-  pub spelled : InRange image
 
 -- the program is accepted, the target is that of unit costs, and the demand fits the hyperperiod
 pub record Compiles (program target : Option (List ℕ)) (tree : PlainTree) : Type 0 where

@@ -1,8 +1,9 @@
 -- Programs of one plain task, and the task that each of them is.
-use Rattle.std.specs.Prelude.{◌≡◌, ℕ, ◌+◌, ◌≤◌, ◌⊎◌, pos, ◌≤ℤ◌, Bool, true, false, List, [], ◌∷◌, ◌++◌, length, map, filter, nat_eq, Contains, Some}
+use Rattle.std.specs.Prelude.{◌≡◌, ℕ, ◌+◌, ◌≤◌, ◌⊎◌, pos, ◌≤ℤ◌, Bool, true, false, List, [], ◌∷◌, ◌++◌, length, map, filter, nat_eq, All, Contains, FitsSigned, Some}
 use Rattle.std.specs.List.{position_or_len, AllByRecursion}
 use Rattle.std.specs.Cmp.Lexicographic.{pointwise}
-use Rattle.std.specs.Int.{IsInRange}
+use Rattle.std.specs.Int.{IsInRange, w64}
+use Rattle.tcel_num.specs.Name.{IsName}
 use Rattle.tcel_num.specs.declared.op.Op.TheVariants as ops
 use Rattle.tcel_core.specs.declared.var.Var.{Var}
 use Rattle.tcel_core.specs.declared.var.VarKind.{VarKind}
@@ -69,6 +70,27 @@ pub record IsPlain (tree : PlainTree) : Type 0 where
   pub distinct : AreDistinct (map (λ (d : PlainDecl). d.name) tree.decls)
   pub few_statements : length tree.body ≤ 1000
   pub statements : AllByRecursion (StmtIsPlain tree.decls) tree.body
+
+-- ---- what the grammar gives: names are names, and numbers fit 64 bits
+
+abbrev pub OperandIsWritable : Operand → Type 0
+OperandIsWritable (operands.Number n) = FitsSigned w64 n
+OperandIsWritable (operands.Var name) = IsName name
+
+abbrev pub ExprIsWritable : PlainExpr → Type 0
+ExprIsWritable (exprs.One a) = OperandIsWritable a
+ExprIsWritable (exprs.Two op a b) = OperandIsWritable a × OperandIsWritable b
+
+abbrev pub StmtIsWritable : PlainStmt → Type 0
+StmtIsWritable (stmts.Assign name e) = IsName name × ExprIsWritable e
+StmtIsWritable (stmts.Receive name port) = IsName name × IsName port
+StmtIsWritable (stmts.Send e port) = ExprIsWritable e × IsName port
+
+-- each name of the tree is a name, and each number fits 64 bits
+pub record IsWritable (tree : PlainTree) : Type 0 where
+  pub named : IsName tree.name
+  pub declared : All (λ (d : PlainDecl). IsName d.name) tree.decls
+  pub statements : All StmtIsWritable tree.body
 
 -- ---- the task that a tree is
 

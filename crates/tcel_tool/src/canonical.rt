@@ -1,6 +1,8 @@
-ghost use Rattle.std.specs.Prelude.{◌≡◌, ◌++◌, OnSome, IfSome, IsTrue};
+ghost use Rattle.std.specs.Prelude.{◌≡◌, ◌++◌, All, OnSome, IfSome, IsTrue};
 ghost use Rattle.std.specs.List.{flat_map};
+ghost use Rattle.tcel_num.specs.Name.{IsName};
 ghost use Rattle.tcel_tool.specs.CanonicalText.{text_of, task_line, every_line, decl_text, kind_text, stmt_text, expr_text, sign_text, operand_text};
+ghost use Rattle.tcel_tool.specs.PlainTree.{ExprIsWritable, IsWritable, OperandIsWritable, StmtIsWritable};
 
 use crate::plain_tree::{Operand, PlainDecl, PlainExpr, PlainKind, PlainStmt, PlainTree};
 use itoa::{Buffer, Integer};
@@ -8,7 +10,8 @@ use tcel_num::Op;
 
 /// Whether this is the canonical text of the tree (docs/language.md).
 pub(crate) fn is_text_of(text: &[u8], tree: &PlainTree) -> bool
-    ensures { IsTrue result → text.now ≡ text_of tree.now }
+    ensures text { IsTrue result → text.now ≡ text_of tree.now }
+    ensures writable { IsTrue result → IsWritable tree.now }
 {
     match behind_tree(text, tree) {
         Some(rest) => rest.is_empty(),
@@ -30,7 +33,8 @@ fn behind_number<I: Integer>(text: &[u8], number: I) -> Option<&[u8]>
 }
 
 fn behind_tree<'a>(text: &'a [u8], tree: &PlainTree) -> Option<&'a [u8]>
-    ensures { IfSome result (λ rest. text.now ≡ text_of tree.now ++ rest.now) }
+    ensures text { IfSome result (λ rest. text.now ≡ text_of tree.now ++ rest.now) }
+    ensures writable { OnSome result (IsWritable tree.now) }
 {
     let rest = behind_task_line(text, tree)?;
     let rest = behind_decls(rest, tree.decls.as_slice())?;
@@ -40,7 +44,8 @@ fn behind_tree<'a>(text: &'a [u8], tree: &PlainTree) -> Option<&'a [u8]>
 }
 
 fn behind_task_line<'a>(text: &'a [u8], tree: &PlainTree) -> Option<&'a [u8]>
-    ensures { IfSome result (λ rest. text.now ≡ task_line tree.now ++ rest.now) }
+    ensures text { IfSome result (λ rest. text.now ≡ task_line tree.now ++ rest.now) }
+    ensures writable { OnSome result (IsName tree.now.name) }
 {
     let rest = behind(text, b"task ")?;
     let rest = behind(rest, tree.name.bytes())?;
@@ -58,7 +63,8 @@ fn behind_every_line<'a>(text: &'a [u8], tree: &PlainTree) -> Option<&'a [u8]>
 }
 
 fn behind_decls<'a>(text: &'a [u8], decls: &[PlainDecl]) -> Option<&'a [u8]>
-    ensures { IfSome result (λ rest. text.now ≡ flat_map decl_text decls.now ++ rest.now) }
+    ensures text { IfSome result (λ rest. text.now ≡ flat_map decl_text decls.now ++ rest.now) }
+    ensures writable { OnSome result (All (λ d. IsName d.name) decls.now) }
 {
     let mut rest = text;
     for decl in decls {
@@ -68,7 +74,8 @@ fn behind_decls<'a>(text: &'a [u8], decls: &[PlainDecl]) -> Option<&'a [u8]>
 }
 
 fn behind_decl<'a>(text: &'a [u8], decl: &PlainDecl) -> Option<&'a [u8]>
-    ensures { IfSome result (λ rest. text.now ≡ decl_text decl.now ++ rest.now) }
+    ensures text { IfSome result (λ rest. text.now ≡ decl_text decl.now ++ rest.now) }
+    ensures writable { OnSome result (IsName decl.now.name) }
 {
     let rest = behind(text, b"  ")?;
     let rest = behind(rest, kind_text(decl.kind))?;
@@ -88,7 +95,8 @@ fn kind_text(kind: PlainKind) -> &'static [u8]
 }
 
 fn behind_body<'a>(text: &'a [u8], body: &[PlainStmt]) -> Option<&'a [u8]>
-    ensures { IfSome result (λ rest. text.now ≡ flat_map stmt_text body.now ++ rest.now) }
+    ensures text { IfSome result (λ rest. text.now ≡ flat_map stmt_text body.now ++ rest.now) }
+    ensures writable { OnSome result (All StmtIsWritable body.now) }
 {
     let mut rest = text;
     for stmt in body {
@@ -98,7 +106,8 @@ fn behind_body<'a>(text: &'a [u8], body: &[PlainStmt]) -> Option<&'a [u8]>
 }
 
 fn behind_stmt<'a>(text: &'a [u8], stmt: &PlainStmt) -> Option<&'a [u8]>
-    ensures { IfSome result (λ rest. text.now ≡ stmt_text stmt.now ++ rest.now) }
+    ensures text { IfSome result (λ rest. text.now ≡ stmt_text stmt.now ++ rest.now) }
+    ensures writable { OnSome result (StmtIsWritable stmt.now) }
 {
     let rest = behind(text, b"    ")?;
     match stmt {
@@ -126,7 +135,8 @@ fn behind_stmt<'a>(text: &'a [u8], stmt: &PlainStmt) -> Option<&'a [u8]>
 }
 
 fn behind_expr<'a>(text: &'a [u8], expr: &PlainExpr) -> Option<&'a [u8]>
-    ensures { IfSome result (λ rest. text.now ≡ expr_text expr.now ++ rest.now) }
+    ensures text { IfSome result (λ rest. text.now ≡ expr_text expr.now ++ rest.now) }
+    ensures writable { OnSome result (ExprIsWritable expr.now) }
 {
     match expr {
         PlainExpr::One(operand) => behind_operand(text, operand),
@@ -148,7 +158,8 @@ fn sign_text(op: Op) -> &'static [u8]
 }
 
 fn behind_operand<'a>(text: &'a [u8], operand: &Operand) -> Option<&'a [u8]>
-    ensures { IfSome result (λ rest. text.now ≡ operand_text operand.now ++ rest.now) }
+    ensures text { IfSome result (λ rest. text.now ≡ operand_text operand.now ++ rest.now) }
+    ensures writable { OnSome result (OperandIsWritable operand.now) }
 {
     match operand {
         Operand::Number(number) => behind_number(text, *number),

@@ -5,8 +5,8 @@ ghost use Rattle.tcel_io.specs.Reach.{ReachesWithin};
 ghost use Rattle.tcel_io.specs.Shelf.{TellsTheSame};
 ghost use Rattle.tcel_io.specs.Taken.{Takes, TakesPrefix};
 ghost use Rattle.tcel_io.specs.declared.loaded.Outcome.TheVariants.{Done};
-ghost use Rattle.tcel_tool.specs.Answer.{Accepts, Answers, AreLoads, Compiles, IsImageOf, IsLateRefusal, IsOverload, Refuses, both_loads, image_bytes, load_of, program_load, target_load, unit_target, writes, IsLoadRefusal, RefusesTarget};
-ghost use Rattle.tcel_tool.specs.PlainTree.{IsPlain};
+ghost use Rattle.tcel_tool.specs.Answer.{Accepts, Answers, AreLoads, Compiles, IsLateRefusal, IsOverload, Refuses, both_loads, image_bytes, load_of, program_load, target_load, unit_target, writes, IsLoadRefusal, RefusesTarget};
+ghost use Rattle.tcel_tool.specs.PlainTree.{IsPlain, IsWritable};
 ghost use Rattle.tcel_tool.specs.StraightPlan.{body_cycles};
 ghost use Rattle.tcel_tool.specs.declared.plain_tree.PlainTree.{PlainTree};
 
@@ -19,7 +19,7 @@ use crate::plan::total_cycles;
 use crate::read::read_tree;
 use crate::status::{LimitFault, Status};
 use std::alloc::Global;
-use tcel_image::{Image, encode, in_range};
+use tcel_image::encode;
 use tcel_io::{LoadFail, Shelf, Sink};
 
 /// The most bytes of a program.
@@ -81,55 +81,37 @@ fn image_bytes<H: Shelf>(
     ensures loads { OnOk result (AddsLoads (both_loads program.now target.now) (H.loads shelf.old) (H.loads shelf.new)) }
     ensures refusal { IfErr result (Refuses program.now target.now (H.told shelf.old) (H.loads shelf.old) (H.loads shelf.new)) }
 {
-    let (tree, image) = load_program(alloc, program, shelf)?;
+    let tree = load_program(alloc, program, shelf)?;
     match load_target(alloc, target, shelf) {
-        Ok(()) => encode_fitting(alloc, &tree, &image),
+        Ok(()) => encode_fitting(alloc, &tree),
         Err(status) => Err(status),
     }
 }
 
 /// The bytes of the tree's image, where its cycles fit its period.
-fn encode_fitting(alloc: Global, tree: &PlainTree, image: &Image) -> Result<Vec<u8>, Status>
+fn encode_fitting(alloc: Global, tree: &PlainTree) -> Result<Vec<u8>, Status>
     requires plain { IsPlain tree.now }
-    requires image { IsImageOf tree.now image.now }
+    requires writable { IsWritable tree.now }
     ensures bytes { IfOk result (λ bytes. bytes.items ≡ image_bytes tree.now) }
     ensures fits { OnOk result (body_cycles tree.now.body + 2 ≤ tree.now.period) }
     ensures refusal { IfErr result (IsLateRefusal tree.now) }
 {
     refuse_overload(tree)?;
-    Ok(encode(alloc, image)?)
+    let image = image_of(alloc, tree)?;
+    Ok(encode(alloc, &image)?)
 }
 
-fn load_program<H: Shelf>(
-    alloc: Global,
-    program: &str,
-    shelf: &mut H,
-) -> Result<(PlainTree, Image), Status>
-    ensures accepted { IfOk result (λ r. Accepts (H.told shelf.old program.now) r.0) }
-    ensures image { IfOk result (λ r. IsImageOf r.0 r.1) }
+/// The tree of the program's file.
+fn load_program<H: Shelf>(alloc: Global, program: &str, shelf: &mut H) -> Result<PlainTree, Status>
+    ensures accepted { IfOk result (Accepts (H.told shelf.old program.now)) }
     ensures loads { OnOk result (AddsLoads (program_load program.now Done ∷ []) (H.loads shelf.old) (H.loads shelf.new)) }
     ensures told { TellsTheSame (H.told shelf.old) (H.told shelf.new) }
     ensures refusal { IfErr result (λ status. (target : List ℕ)
         → Refuses program.now target (H.told shelf.old) (H.loads shelf.old) (H.loads shelf.new) status) }
 {
     match load(alloc, program, 1, PROGRAM_LIMIT, shelf) {
-        Ok(text) => accept(alloc, &text),
+        Ok(text) => tree_of(alloc, &text),
         Err(status) => Err(status),
-    }
-}
-
-/// The tree of the text with its image.
-fn accept(alloc: Global, text: &[u8]) -> Result<(PlainTree, Image), Status>
-    ensures accepted { IfOk result (λ r. Accepts (Some text.now) r.0) }
-    ensures image { IfOk result (λ r. IsImageOf r.0 r.1) }
-    ensures refusal { IfErr result (λ status. (status ≡ Status.NoMemory) ⊎ (status ≡ Status.Beyond 1)) }
-{
-    let tree = tree_of(alloc, text)?;
-    let image = image_of(alloc, &tree)?;
-    if in_range(&image) {
-        Ok((tree, image))
-    } else {
-        Err(Status::Beyond { word: 1 })
     }
 }
 

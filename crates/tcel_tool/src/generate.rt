@@ -2,9 +2,10 @@ ghost use Rattle.std.specs.Prelude.{◌≡◌, ◌++◌, ◌≤◌, ◌<◌, len
 ghost use Rattle.tcel_core.specs.Cells.{place, all_words};
 ghost use Rattle.tcel_core.specs.declared.var.Keep.{Keep};
 ghost use Rattle.tcel_image.specs.Examples.{unit_costs};
+ghost use Rattle.tcel_image.specs.Spelling.{InRange};
 ghost use Rattle.tcel_tool.specs.Code.{at, expr_code, act_code, whole_code};
 ghost use Rattle.tcel_tool.specs.Layout.{image_of, image_task, states_of, state_of};
-ghost use Rattle.tcel_tool.specs.PlainTree.{IsPlain, StmtIsPlain, ExprIsPlain, OperandIsPlain, set_of, task_of, vars_of, var_of, variable_names, names_of, index_of, operand_of, expr_of, act_of, block_from};
+ghost use Rattle.tcel_tool.specs.PlainTree.{IsPlain, IsWritable, StmtIsPlain, ExprIsPlain, OperandIsPlain, set_of, task_of, vars_of, var_of, variable_names, names_of, index_of, operand_of, expr_of, act_of, block_from};
 ghost use Rattle.tcel_tool.specs.declared.plain_tree.PlainKind.TheVariants as kinds;
 
 use crate::names::{count_of, names_of, position_of, variable_position};
@@ -16,8 +17,10 @@ use tcel_num::{Name, NoMemory};
 
 /// The image of the task, for a processor whose instructions take 1 cycle each (docs/machine.md).
 pub(crate) fn image_of(alloc: Global, tree: &PlainTree) -> Result<Image, NoMemory>
-    requires { IsPlain tree.now }
-    ensures { IfOk result (λ image. image ≡ image_of (set_of tree.now) unit_costs) }
+    requires plain { IsPlain tree.now }
+    requires writable { IsWritable tree.now }
+    ensures exact { IfOk result (λ image. image ≡ image_of (set_of tree.now) unit_costs) }
+    ensures spelled { IfOk result InRange }
 {
     let mut tasks = Items::new(alloc);
     tasks.push(image_task(alloc, tree)?)?;

@@ -49,7 +49,7 @@ pub fn tcel<H: Shelf, K: Sink>(
         × AreCutOff lines (seen (K.taken out.old) (K.faults out.old) (K.puts out.old)) (seen (K.taken out.new) (K.faults out.new) (K.puts out.new))) result }
     ensures no_loads { result ≡ Status.Words → H.loads shelf.new ≡ H.loads shelf.old }
 
-    // After Ok out took the image of the program's set, and every run of this image meets the program.
+    // After Ok out took the image of the program's set, which has a spelling, and every run of this image meets the program.
     ensures headline { IsCompile (map string_bytes words.now) → result ≡ Status.Ok → (tree : PlainTree) × Accepts (H.told shelf.old (word_at (map string_bytes words.now) 1)) tree
         × Takes (image_bytes tree) (K.taken out.old) (K.taken out.new) × KeepsItsPromise tree unit_costs }
 

@@ -10,9 +10,9 @@ pub returns-in-Ok-clause-refusal : goal.returns-in-Ok-clause-refusal
 returns-in-Ok-clause-refusal g c =
     err_map (λ (s : Status). (s ≡ statuses.NoMemory) ⊎ (s ≡ statuses.Beyond 1))
     (λ (s : Status). (target : List ℕ) → Refuses c.args.program.now target (g.H.Shelf.told c.args.shelf.now) (g.H.Shelf.loads c.args.shelf.now) (g.H.Shelf.loads c.load.new.shelf) s)
-    c.accept.result
+    c.tree_of.result
     (λ s h target. refused_text c.args.program.now target (g.H.Shelf.told c.args.shelf.now) (g.H.Shelf.loads c.args.shelf.now) (g.H.Shelf.loads c.load.new.shelf) s h c.in-Ok.ensures.loads)
-    c.accept.ensures.refusal
+    c.tree_of.ensures.refusal
 
 pub returns-in-Err-clause-refusal : goal.returns-in-Err-clause-refusal
 returns-in-Err-clause-refusal g c =
