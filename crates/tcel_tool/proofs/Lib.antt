@@ -24,3 +24,4 @@ pub mod OneTask
 pub mod Kept
 pub mod RunLines
 pub mod RunWords
+pub mod Written

@@ -13,4 +13,5 @@ pub mod RunAnswer
 pub mod StraightPlan
 pub mod Walks
 pub mod WholePlan
+pub mod WrittenImages
 pub mod ExitStatus
