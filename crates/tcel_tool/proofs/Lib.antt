@@ -4,6 +4,8 @@ pub mod ExprRuns
 pub mod Inputs
 pub mod Dues
 pub mod WalksGoOn
+pub mod Runs
+pub mod TimedRuns
 pub mod BodyRuns
 pub mod StateWords
 pub mod Progress
