@@ -1,6 +1,6 @@
 -- The code of statements on the machine: what it leaves is what the statements mean, and its ticks are at most those of a walk.
-use Rattle.std.proofs.Common.{pos, zero, ◌≡◌, ℕ, suc, ◌+◌, ◌-◌, ◌*◌, ◌<◌, ◌≤◌, ◌⊎◌, Bool, true, false, cond, ℤ, List, [], ◌∷◌, ◌++◌, length, get_or, set, refl, sym, ap, ◌∙◌, subst, arith, append_assoc, append-nil, length-append, rules, Some, inl, inr}
-use Rattle.std.specs.Prelude.{slice_get, max, unwrap_or}
+use Rattle.std.proofs.Common.{pos, zero, ◌≡◌, ℕ, suc, ◌+◌, ◌-◌, ◌*◌, ◌<◌, ◌≤◌, ◌⊎◌, Bool, true, false, cond, ℤ, List, [], ◌∷◌, ◌++◌, length, get_or, set, refl, sym, ap, ◌∙◌, subst, arith, append_assoc, append-nil, length-append, rules, inl, inr}
+use Rattle.std.specs.Prelude.{max, unwrap_or}
 use Rattle.std.proofs.lemmas.Bool.{lt-ltb, le-ltb, cond-false, cases_Bool, cond_both, cond-true, true≢false}
 use Rattle.std.proofs.lemmas.List.{get_or-append-add, get_or-set_other, get_or-set_same, length-set, set-append_left, set-append_right}
 use Rattle.std.proofs.Math.Nat.{mul-pos}
@@ -21,15 +21,16 @@ use Rattle.tcel_tool.specs.Code.{at, expr_code, block_code, stmt_code, act_code,
 use Rattle.tcel_core.specs.Contents.{act_loops, stmt_loops, loops, has_statement, has_event}
 use Rattle.tcel_tool.specs.Costs.{expr_cycles}
 use Rattle.tcel_tool.specs.Walks.{Counts, WhileWalks, Walks, StmtWalks, ActWalks, Then, Either, Rounds, RoundsUpTo, Passes, held_entry}
+use Rattle.tcel_tool.proofs.Steps.{Setting, LineAt, AheadAt, ready_at, ahead_at, quiet_step, show_step}
 use Rattle.tcel_tool.proofs.Ahead.{Due, quietly, showing}
-use Rattle.tcel_tool.proofs.ExprRuns.{Stands, stands_front, stands_back, ready_at, ahead_at, quiet_step}
+use Rattle.tcel_tool.proofs.ExprRuns.{Stands, stands_front, stands_back}
 use Rattle.tcel_core.proofs.Remain.{Remain, take_one, takes}
 use Rattle.tcel_tool.proofs.Inputs.{same_input}
 use Rattle.tcel_core.proofs.Scope.{IsScalar, IsSound, array_within}
 use Rattle.tcel_num.proofs.Words.{with_element_front, copied_front}
 use Rattle.tcel_core.proofs.Bodies.{AreTurns, block_words, block_remains, rounds_keep, ActFits, StmtFits, Fits, stmt_words, stmt_remains, block_quiet}
 use Rattle.tcel_tool.proofs.Dues.{Suits, AllSuit, no_dues}
-use Rattle.tcel_tool.proofs.Runs.{Setting, AheadAt, release, Goes, Runs, goes_lower, goes_by, pass_goes, nothing_runs, then_goes, then_runs, show_step, value_runs, test_runs}
+use Rattle.tcel_tool.proofs.Runs.{release, Goes, Runs, goes_lower, goes_by, pass_goes, nothing_runs, then_goes, then_runs, value_runs, test_runs}
 use Rattle.tcel_tool.proofs.TimedRuns.{timed_runs}
 
 one_due : (release floor count : ℕ) (e : Occurrence) (dues : List Due) → AllSuit release floor (count ∷ []) (e ∷ []) dues → (P : List Due → Type 0) →
@@ -111,9 +112,9 @@ module _ (s : Setting) where
               test_runs s test sound p (no_at true) ran since cells others taken (dues ++ later) long (test_stands true stands) true is
               (r.ahead dues later suit
               (λ ran' since' h' waited' low'.
-              quiet_step costs task inputs last frame (takes o.events taken) later (Jump (yes_at + length yes_code + 1 + length no_code)) 0 (λ now r. refl) (ranges keys.Jump).0 (yes_at + length yes_code) (yes_at + length yes_code + 1 + length no_code)
+              quiet_step s (takes o.events taken) later (Jump (yes_at + length yes_code + 1 + length no_code)) 0 (λ now r. refl) (ranges keys.Jump).0 (yes_at + length yes_code) (yes_at + length yes_code + 1 + length no_code)
               ran' since' stack stack (o.memory.cells ++ r.left) (o.memory.cells ++ r.left) jump_stands (λ spent. refl)
-              (ahead_at costs task inputs last frame (takes o.events taken) later _ _ _ _ _ _ stack (o.memory.cells ++ r.left) refl refl end_at
+              (ahead_at s (takes o.events taken) later _ _ _ _ _ _ stack (o.memory.cells ++ r.left) refl refl end_at
               (then' (ran' + costs.jump) (since' + costs.jump) (omega arith) (omega arith) (omega arith))))
               (ran + test_cycles) (since + test_cycles) (omega arith) (omega arith) (omega arith));
         }
@@ -139,7 +140,7 @@ module _ (s : Setting) where
               λ dues later suit then' ran since h waited low.
               test_runs s test sound p (no_at false) ran since cells others taken (dues ++ later) long (test_stands false stands) true is
               (r.ahead dues later suit
-              (λ ran' since' h' waited' low'. ahead_at costs task inputs last frame (takes o.events taken) later _ _ _ _ _ _ stack (o.memory.cells ++ r.left) refl refl end_at (then' ran' since' h' waited' low'))
+              (λ ran' since' h' waited' low'. ahead_at s (takes o.events taken) later _ _ _ _ _ _ stack (o.memory.cells ++ r.left) refl refl end_at (then' ran' since' h' waited' low'))
               (ran + test_cycles) (since + test_cycles) (omega arith) (omega arith) (omega arith));
         }
 
@@ -160,7 +161,7 @@ module _ (s : Setting) where
               λ dues later suit then' ran since h waited low.
               test_runs s test sound p (no_at has) ran since cells others taken (dues ++ later) long (test_stands has stands) false is
               (r.ahead dues later suit
-              (λ ran' since' h' waited' low'. ahead_at costs task inputs last frame (takes o.events taken) later _ _ _ _ _ _ stack (o.memory.cells ++ r.left) refl refl end_at (then' ran' since' h' waited' low'))
+              (λ ran' since' h' waited' low'. ahead_at s (takes o.events taken) later _ _ _ _ _ _ stack (o.memory.cells ++ r.left) refl refl end_at (then' ran' since' h' waited' low'))
               (ran + test_cycles) (since + test_cycles) (omega arith) (omega arith) (omega arith));
         }
       where
@@ -251,7 +252,7 @@ module _ (s : Setting) where
 
   -- the counter begins at 0
   abbrev begin_goes : (m : Memory) (low p entry floor counter : ℕ) (others : List ℤ) (taken : List ℕ) → length m.cells ≡ all_words vars → counter ≡ all_words vars + low →
-      slice_get task.code p ≡ Some (record { instr = Const (pos 0); depth = 0 }) → slice_get task.code (p + 1) ≡ Some (record { instr = Put counter; depth = 1 }) →
+      LineAt s p 0 (Const (pos 0)) → LineAt s (p + 1) 1 (Put counter) →
       Goes s (Passes (costs.const_ + costs.store)) (quiet m) low p (p + 2) entry floor m.cells others taken
   begin_goes m low p entry floor counter others taken long at_low one two =
       let others' = set others low (pos 0) in
@@ -259,15 +260,15 @@ module _ (s : Setting) where
       pass_goes s (costs.const_ + costs.store) m low p (p + 2) entry floor m.cells others others' taken (length-set others low (pos 0))
       (λ j h. get_or-set_other others low j (pos 0) (pos 0) (λ e. absurd (omega arith)))
       (λ dues ran since ahead.
-      quiet_step costs task inputs last frame taken dues (Const (pos 0)) 0 (λ now r. refl) (ranges keys.Const).0 p (p + 1) ran since stack (pos 0 ∷ stack) (m.cells ++ others) (m.cells ++ others) one (λ spent. refl)
-      (quiet_step costs task inputs last frame taken dues (Put counter) 1 (λ now r. refl) (ranges keys.Store).0 (p + 1) (p + 2) (ran + costs.const_) (since + costs.const_) (pos 0 ∷ stack) stack (m.cells ++ others) (m.cells ++ others')
+      quiet_step s taken dues (Const (pos 0)) 0 (λ now r. refl) (ranges keys.Const).0 p (p + 1) ran since stack (pos 0 ∷ stack) (m.cells ++ others) (m.cells ++ others) one (λ spent. refl)
+      (quiet_step s taken dues (Put counter) 1 (λ now r. refl) (ranges keys.Store).0 (p + 1) (p + 2) (ran + costs.const_) (since + costs.const_) (pos 0 ∷ stack) stack (m.cells ++ others) (m.cells ++ others')
       two
       (λ spent. ap (λ l. quietly (ready_at (p + 1 + 1) stack l frame taken)) (counter_set m.cells others counter low (pos 0) long at_low) ∙ ap (λ k. quietly (ready_at k stack (m.cells ++ others') frame taken)) on)
-      (ahead_at costs task inputs last frame taken dues _ _ _ _ (p + 2) (p + 2) stack (m.cells ++ others') (omega arith) (omega arith) refl ahead)))
+      (ahead_at s taken dues _ _ _ _ (p + 2) (p + 2) stack (m.cells ++ others') (omega arith) (omega arith) refl ahead)))
 
   -- the instruction at a loop's end: on to the next round, or behind the loop
   count_goes : (m : Memory) (j n low p target entry floor counter : ℕ) (others : List ℤ) (taken : List ℕ) → length m.cells ≡ all_words vars → counter ≡ all_words vars + low → low < length others →
-      get_or others low (pos 0) ≡ pos j → j < n → n < 2 ^ 63 → slice_get task.code p ≡ Some (record { instr = Loop counter n target; depth = 0 }) →
+      get_or others low (pos 0) ≡ pos j → j < n → n < 2 ^ 63 → LineAt s p 0 (Loop counter n target) →
       (g : Goes s (Passes costs.loop_) (quiet m) low p (cond (nat_lt (suc j) n) target (p + 1)) entry floor m.cells others taken) × (get_or g.left low (pos 0) ≡ pos (suc j))
   count_goes m j n low p target entry floor counter others taken long at_low room is less small here =
       let others' = set others low (pos (suc j)) in
@@ -277,7 +278,7 @@ module _ (s : Setting) where
         pass_goes s costs.loop_ m low p q entry floor m.cells others others' taken (length-set others low (pos (suc j)))
             (λ k h. get_or-set_other others low k (pos (suc j)) (pos 0) (λ e. absurd (omega arith)))
             (λ dues ran since ahead.
-            quiet_step costs task inputs last frame taken dues (Loop counter n target) 0 (λ now r. refl) (ranges keys.Loop).0 p q ran since stack stack (m.cells ++ others) (m.cells ++ others') here
+            quiet_step s taken dues (Loop counter n target) 0 (λ now r. refl) (ranges keys.Loop).0 p q ran since stack stack (m.cells ++ others) (m.cells ++ others') here
             (λ spent.
             ap (λ x. quietly (ready_at (cond (int_lt x (pos n)) target (p + 1)) stack (set (m.cells ++ others) counter x) frame taken)) count
             ∙ ap (λ l. quietly (ready_at q stack l frame taken)) (counter_set m.cells others counter low (pos (suc j)) long at_low))
@@ -294,7 +295,7 @@ module _ (s : Setting) where
   -- a body and the count behind it
   turn_goes : (body : Block) (fits : Fits body vars) (m : Memory) (j n low p target entry floor counter : ℕ) (code : List Line) (others : List ℤ) (taken : List ℕ) → length m.cells ≡ all_words vars →
       counter ≡ all_words vars + low → low + (1 + loops body) ≤ length others → get_or others low (pos 0) ≡ pos j → j < n → n < 2 ^ 63 → Remain inputs m.inputs taken →
-      BodyGoes body (suc low) p floor code → slice_get task.code (p + length code) ≡ Some (record { instr = Loop counter n target; depth = 0 }) →
+      BodyGoes body (suc low) p floor code → LineAt s (p + length code) 0 (Loop counter n target) →
       (g : Goes s (Then (Walks body vars costs) (Passes costs.loop_)) (exec body vars m) low p (cond (nat_lt (suc j) n) target (p + length code + 1)) entry floor m.cells others taken)
       × (get_or g.left low (pos 0) ≡ pos (suc j))
   turn_goes body fits m j n low p target entry floor counter code others taken long at_low room is less small remain inner here =
@@ -330,8 +331,8 @@ module _ (s : Setting) where
     -- one round
     for_turn : (m : Memory) (j entry : ℕ) (others : List ℤ) (taken : List ℕ) → length m.cells ≡ all_words vars → low + (1 + loops body) ≤ length others → get_or others low (pos 0) ≡ pos j → j < n →
         Remain inputs m.inputs taken → BodyGoes body (suc low) (p + 4) floor code →
-        slice_get task.code (p + 2) ≡ Some (record { instr = Get counter; depth = 0 }) → slice_get task.code (p + 3) ≡ Some (record { instr = Put (place vars v); depth = 1 }) →
-        slice_get task.code for_line ≡ Some (record { instr = Loop counter n (p + 2); depth = 0 }) →
+        LineAt s (p + 2) 0 (Get counter) → LineAt s (p + 3) 1 (Put (place vars v)) →
+        LineAt s for_line 0 (Loop counter n (p + 2)) →
         (g : Goes s ForRound (for_round j m) low (p + 2) (after_turn (suc j)) entry floor m.cells others taken) × (get_or g.left low (pos 0) ≡ pos (suc j))
     for_turn m j entry others taken long room is less remain inner get put loop =
         let m' = set_turn j m in
@@ -342,14 +343,14 @@ module _ (s : Setting) where
         let words : length m'.cells ≡ all_words vars = length-set m.cells (place vars v) (pos j) ∙ long in
         let first = pass_goes s (costs.load + costs.store) m' low (p + 2) (p + 4) entry floor m.cells others others taken refl (λ k h. refl)
         (λ dues ran since ahead.
-        quiet_step costs task inputs last frame taken dues (Get counter) 0 (λ now r. refl) (ranges keys.Load).0 (p + 2) (p + 3) ran since stack (pos j ∷ stack) (m.cells ++ others) (m.cells ++ others) get
+        quiet_step s taken dues (Get counter) 0 (λ now r. refl) (ranges keys.Load).0 (p + 2) (p + 3) ran since stack (pos j ∷ stack) (m.cells ++ others) (m.cells ++ others) get
         (λ spent.
         ap (λ x. quietly (ready_at (p + 2 + 1) (x ∷ stack) (m.cells ++ others) frame taken)) word
         ∙ ap (λ k. quietly (ready_at k (pos j ∷ stack) (m.cells ++ others) frame taken)) three)
-        (quiet_step costs task inputs last frame taken dues (Put (place vars v)) 1 (λ now r. refl) (ranges keys.Store).0 (p + 3) (p + 4) (ran + costs.load) (since + costs.load) (pos j ∷ stack) stack
+        (quiet_step s taken dues (Put (place vars v)) 1 (λ now r. refl) (ranges keys.Store).0 (p + 3) (p + 4) (ran + costs.load) (since + costs.load) (pos j ∷ stack) stack
         (m.cells ++ others) (m'.cells ++ others) put
         (λ spent. ap (λ l. quietly (ready_at (p + 3 + 1) stack l frame taken)) same ∙ ap (λ k. quietly (ready_at k stack (m'.cells ++ others) frame taken)) four)
-        (ahead_at costs task inputs last frame taken dues _ _ _ _ (p + 4) (p + 4) stack (m'.cells ++ others) (omega arith) (omega arith) refl ahead))) in
+        (ahead_at s taken dues _ _ _ _ (p + 4) (p + 4) stack (m'.cells ++ others) (omega arith) (omega arith) refl ahead))) in
         let rest = turn_goes body fits m' j n low (p + 4) (p + 2) (entry + (costs.load + costs.store)) floor counter code others taken words at_low room is less turns.countable remain inner loop in (
           then_goes s (Passes (costs.load + costs.store)) (Then (Walks body vars costs) (Passes costs.loop_)) (quiet m') (exec body vars) low low (p + 2) (p + 4) (after_turn (suc j)) entry floor m.cells others taken (omega arith) first rest.0,
           rest.1,
@@ -357,8 +358,8 @@ module _ (s : Setting) where
 
     module _ (m : Memory) (entry : ℕ) (others : List ℤ) (taken : List ℕ) (long : length m.cells ≡ all_words vars) (room : low + (1 + loops body) ≤ length others) (begun : get_or others low (pos 0) ≡ pos 0)
         (remain : Remain inputs m.inputs taken) (inner : BodyGoes body (suc low) (p + 4) floor code)
-        (get : slice_get task.code (p + 2) ≡ Some (record { instr = Get counter; depth = 0 })) (put : slice_get task.code (p + 3) ≡ Some (record { instr = Put (place vars v); depth = 1 }))
-        (loop : slice_get task.code for_line ≡ Some (record { instr = Loop counter n (p + 2); depth = 0 })) where
+        (get : LineAt s (p + 2) 0 (Get counter)) (put : LineAt s (p + 3) 1 (Put (place vars v)))
+        (loop : LineAt s for_line 0 (Loop counter n (p + 2))) where
       -- what the rounds leave
       words_kept : (j : ℕ) → length (rounds j for_round m).memory.cells ≡ all_words vars
       words_kept j =
@@ -376,7 +377,7 @@ module _ (s : Setting) where
           let same : entry + 0 ≡ entry = omega arith in
           let ran_same : (dues : List Due) (ran since : ℕ) → AheadAt s (ran + 0) (since + 0) (after_turn 0) stack (m.cells ++ others) taken dues →
           AheadAt s ran since (p + 2) stack (m.cells ++ others) taken dues =
-          λ dues ran since ahead. ahead_at costs task inputs last frame taken dues _ _ _ _ _ _ stack (m.cells ++ others) (omega arith) (omega arith) (sym here) ahead in
+          λ dues ran since ahead. ahead_at s taken dues _ _ _ _ _ _ stack (m.cells ++ others) (omega arith) (omega arith) (sym here) ahead in
           (pass_goes s 0 m low (p + 2) (after_turn 0) entry floor m.cells others others taken refl (λ k h. refl) ran_same, begun)
       for_turns (suc j) h =
           let before = for_turns j (omega arith) in
@@ -396,7 +397,7 @@ module _ (s : Setting) where
   module _ (test : Expr) (sound : IsSound vars test) (n : ℕ) (turns : AreTurns n) (body : Block) (fits : Fits body vars) (low p floor counter : ℕ) (at_low : counter ≡ all_words vars + low) (code : List Line)
       (inner : BodyGoes body (suc low) (p + 2 + length (expr_code test vars 0) + 1) floor code)
       (tested : Stands task.code (p + 2) (expr_code test vars 0 ++ at 1 (Branch (p + 2 + length (expr_code test vars 0) + 1 + length code + 1))))
-      (loop : slice_get task.code (p + 2 + length (expr_code test vars 0) + 1 + length code) ≡ Some (record { instr = Loop counter n (p + 2); depth = 0 })) where
+      (loop : LineAt s (p + 2 + length (expr_code test vars 0) + 1 + length code) 0 (Loop counter n (p + 2))) where
     abbrev body_at : ℕ
     body_at = p + 2 + length (expr_code test vars 0) + 1
 
@@ -427,7 +428,7 @@ module _ (s : Setting) where
         let at_end : while_end ≡ cond (nat_lt j n) (p + 2) while_end = sym (cond-false (nat_lt j n) (p + 2) while_end (le-ltb j n (omega arith))) in
         goes_by s (Passes 0) (RoundsUpTo zero WhileRound (Passes tests)) (quiet m) low (cond (nat_lt j n) (p + 2) while_end) while_end entry floor m.cells others taken (λ from to es w. inr w)
         (pass_goes s 0 m low (cond (nat_lt j n) (p + 2) while_end) while_end entry floor m.cells others others taken refl (λ k h. refl)
-        (λ dues ran since ahead. ahead_at costs task inputs last frame taken dues _ _ _ _ _ _ stack (m.cells ++ others) (omega arith) (omega arith) at_end ahead))
+        (λ dues ran since ahead. ahead_at s taken dues _ _ _ _ _ _ stack (m.cells ++ others) (omega arith) (omega arith) at_end ahead))
     while_turns (suc i) j some_left m entry others taken long room is remain =
         let less : j < n = omega arith in
         let at_start : p + 2 ≡ cond (nat_lt j n) (p + 2) while_end = sym (cond-true (nat_lt j n) (p + 2) while_end (lt-ltb j n less)) in
@@ -453,8 +454,8 @@ module _ (s : Setting) where
       length m.cells ≡ all_words vars → counter ≡ all_words vars + low → low + (1 + loops body) ≤ length others → Remain inputs m.inputs taken → (code : List Line) →
       BodyGoes body (suc low) (p + 2 + length (expr_code test vars 0) + 1) floor code →
       Stands task.code (p + 2) (expr_code test vars 0 ++ at 1 (Branch (p + 2 + length (expr_code test vars 0) + 1 + length code + 1))) →
-      slice_get task.code (p + 2 + length (expr_code test vars 0) + 1 + length code) ≡ Some (record { instr = Loop counter n (p + 2); depth = 0 }) →
-      slice_get task.code p ≡ Some (record { instr = Const (pos 0); depth = 0 }) → slice_get task.code (p + 1) ≡ Some (record { instr = Put counter; depth = 1 }) →
+      LineAt s (p + 2 + length (expr_code test vars 0) + 1 + length code) 0 (Loop counter n (p + 2)) →
+      LineAt s p 0 (Const (pos 0)) → LineAt s (p + 1) 1 (Put counter) →
       Goes s (WhileWalks costs (expr_cycles costs vars test + costs.branch) n (Walks body vars costs)) (rounds_while n (λ k. holds (value test vars k.cells)) (exec body vars) m)
       low p (p + 2 + length (expr_code test vars 0) + 1 + length code + 1) entry floor m.cells others taken
   while_runs test sound n turns body fits m low p entry floor counter others taken long at_low room remain code inner tested loop const put =
@@ -541,10 +542,10 @@ module _ (s : Setting) where
               λ dues later suit then' ran since h waited low.
               subst (λ l. AheadAt s ran since p stack (m.cells ++ others) taken (l ++ later)) (sym (no_dues (release s) floor [] dues suit))
               (value_runs s e fits.1 0 p ran since stack m.cells others taken later long (stands_front task.code p code put stands)
-              (quiet_step costs task inputs last frame taken later (Put (place vars v)) 1 (λ now r. refl) (ranges keys.Store).0 (p + length code) (p + length code + 1)
+              (quiet_step s taken later (Put (place vars v)) 1 (λ now r. refl) (ranges keys.Store).0 (p + length code) (p + length code + 1)
               (ran + expr_cycles costs vars e) (since + expr_cycles costs vars e) (x ∷ stack) stack (m.cells ++ others) (cells ++ others) (stands_back task.code p code put stands).0
               (λ spent. ap (λ l. quietly (ready_at (p + length code + 1) stack l frame taken)) same)
-              (ahead_at costs task inputs last frame taken later _ _ _ _ _ _ stack (cells ++ others) (omega arith) (omega arith) (omega (arith, length-append code put))
+              (ahead_at s taken later _ _ _ _ _ _ stack (cells ++ others) (omega arith) (omega arith) (omega (arith, length-append code put))
               (then' (ran + all) (since + all) (omega arith) (omega arith) (omega arith)))));
         }
     act_runs (assign_at v i e) fits m low p entry floor counter others taken long at_low room remain stands =
@@ -572,11 +573,11 @@ module _ (s : Setting) where
               subst (λ l. AheadAt s ran since p stack (m.cells ++ others) taken (l ++ later)) (sym (no_dues (release s) floor [] dues suit))
               (value_runs s i fits.0 0 p ran since stack m.cells others taken later long (stands_front task.code p index (code ++ put) stands)
               (value_runs s e fits.1 1 p1 (ran + expr_cycles costs vars i) (since + expr_cycles costs vars i) (x ∷ stack) m.cells others taken later long (stands_front task.code p1 code put behind)
-              (quiet_step costs task inputs last frame taken later (PutAt (place vars v) (width vars v)) 2 (λ now r. refl) (ranges keys.StoreAt).0 p2 (p2 + 1)
+              (quiet_step s taken later (PutAt (place vars v) (width vars v)) 2 (λ now r. refl) (ranges keys.StoreAt).0 p2 (p2 + 1)
               (ran + expr_cycles costs vars i + expr_cycles costs vars e) (since + expr_cycles costs vars i + expr_cycles costs vars e) (y ∷ x ∷ stack) stack (m.cells ++ others) (cells ++ others)
               (stands_back task.code p1 code put behind).0
               (λ spent. ap (λ l. quietly (ready_at (p2 + 1) stack l frame taken)) same)
-              (ahead_at costs task inputs last frame taken later _ _ _ _ _ _ stack (cells ++ others) (omega arith) (omega arith) (omega (arith, length-append index (code ++ put), length-append code put))
+              (ahead_at s taken later _ _ _ _ _ _ stack (cells ++ others) (omega arith) (omega arith) (omega (arith, length-append index (code ++ put), length-append code put))
               (then' (ran + all) (since + all) (omega arith) (omega arith) (omega arith))))));
         }
     act_runs (receive v port) fits m low p entry floor counter others taken long at_low room remain stands =
@@ -630,7 +631,7 @@ module _ (s : Setting) where
               (show_step s (Send port) 1 (λ now r. refl) (ranges keys.Send).0 (p + length code) (p + length code + 1) (ran + expr_cycles costs vars e) (since + expr_cycles costs vars e)
               (x ∷ stack) stack (m.cells ++ others) (m.cells ++ others) taken taken due later (stands_back task.code p code out stands).0
               (λ spent. ap (λ w. showing w (ready_at (p + length code + 1) stack (m.cells ++ others) frame taken)) (sym is.shows)) (omega arith) (omega arith)
-              (ahead_at costs task inputs last frame taken later _ _ _ _ _ _ stack (m.cells ++ others) (omega arith) (omega arith) (omega (arith, length-append code out))
+              (ahead_at s taken later _ _ _ _ _ _ stack (m.cells ++ others) (omega arith) (omega arith) (omega (arith, length-append code out))
               (then' (ran + all) (since + all) (omega arith) (omega arith) (omega arith)))));
         }
     act_runs (for_loop v n body) fits m low p entry floor counter others taken long at_low room remain stands =
@@ -639,8 +640,8 @@ module _ (s : Setting) where
         let two : p + 1 + 1 ≡ p + 2 = omega arith in
         let three : p + 1 + 1 + 1 ≡ p + 3 = omega arith in
         let four : p + 1 + 1 + 1 + 1 ≡ p + 4 = omega arith in
-        let get = subst (λ k. slice_get task.code k ≡ Some (record { instr = Get counter; depth = 0 })) two stands.1.1.0 in
-        let put = subst (λ k. slice_get task.code k ≡ Some (record { instr = Put (place vars v); depth = 1 })) three stands.1.1.1.0 in
+        let get = subst (λ k. LineAt s k 0 (Get counter)) two stands.1.1.0 in
+        let put = subst (λ k. LineAt s k 1 (Put (place vars v))) three stands.1.1.1.0 in
         let body_stands = subst (λ k. Stands task.code k (code ++ line)) four stands.1.1.1.1 in
         let next_low : counter + 1 ≡ all_words vars + suc low = omega arith in
         let first = begin_goes m low p entry floor counter others taken long at_low stands.0 stands.1.0 in
@@ -690,7 +691,7 @@ module _ (s : Setting) where
           ahead =
               λ dues later suit then' ran since h waited low.
               subst (λ l. AheadAt s ran since p stack (m.cells ++ others) taken (l ++ later)) (sym (no_dues (release s) floor [] dues suit))
-              (quiet_step costs task inputs last frame taken later (Copy (place vars a) (place vars b) (width vars a)) 0 (λ now r. refl) (mul-pos fits.some each_word) p (p + 1) ran since stack stack
+              (quiet_step s taken later (Copy (place vars a) (place vars b) (width vars a)) 0 (λ now r. refl) (mul-pos fits.some each_word) p (p + 1) ran since stack stack
               (m.cells ++ others) (cells ++ others) stands.0 (λ spent. ap (λ l. quietly (ready_at (p + 1) stack l frame taken)) same)
-              (ahead_at costs task inputs last frame taken later _ _ _ _ _ _ stack (cells ++ others) refl refl refl (then' (ran + all) (since + all) (omega arith) (omega arith) (omega arith))));
+              (ahead_at s taken later _ _ _ _ _ _ stack (cells ++ others) refl refl refl (then' (ran + all) (since + all) (omega arith) (omega arith) (omega arith))));
         }

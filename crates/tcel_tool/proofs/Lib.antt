@@ -1,5 +1,6 @@
 pub mod WorkedExamples
 pub mod Ahead
+pub mod Steps
 pub mod ExprRuns
 pub mod Inputs
 pub mod Dues

@@ -1,51 +1,25 @@
 -- That code runs on the machine: from a place and a count on it does what statements mean, with no more ticks than a walk counts.
-use Rattle.std.proofs.Common.{pos, ◌≡◌, ℕ, suc, ◌+◌, ◌-◌, ◌*◌, ◌<◌, ◌≤◌, Bool, cond, ℤ, List, [], ◌∷◌, ◌++◌, length, get_or, refl, sym, ap, ◌∙◌, subst, arith, append_assoc, length-append, Some}
-use Rattle.std.specs.Prelude.{slice_get, nat_le}
+use Rattle.std.proofs.Common.{pos, ◌≡◌, ℕ, ◌+◌, ◌*◌, ◌<◌, ◌≤◌, Bool, cond, ℤ, List, [], ◌∷◌, ◌++◌, length, get_or, refl, sym, ap, ◌∙◌, subst, arith, append_assoc, length-append}
 use Rattle.tcel_num.specs.Arithmetic.{holds}
-use Rattle.tcel_core.specs.declared.var.Var.{Var}
 use Rattle.tcel_core.specs.Cells.{all_words}
 use Rattle.tcel_core.specs.Language.{Expr}
 use Rattle.tcel_core.specs.Meaning.{value}
 use Rattle.tcel_core.specs.Outcome.{Memory, Outcome, quiet, then_run}
-use Rattle.tcel_image.specs.declared.costs.Costs.{Costs}
 use Rattle.tcel_image.specs.declared.costs.CostKey.TheVariants as keys
-use Rattle.tcel_image.specs.declared.image.ImageTask.{ImageTask}
-use Rattle.tcel_image.specs.declared.image.Instr.{Instr}
 use Rattle.tcel_image.specs.declared.image.Instr.TheVariants.{Branch}
 use Rattle.tcel_image.specs.declared.image.Line.{Line}
-use Rattle.tcel_image.specs.Costs.{CostsInRange}
-use Rattle.tcel_image.specs.Instructions.{cycles}
-use Rattle.tcel_image.specs.Machine.{Running, effect}
-use Rattle.tcel_image.specs.Spelling.{state_words}
 use Rattle.tcel_tool.specs.Code.{at, expr_code}
 use Rattle.tcel_tool.specs.Costs.{code_cycles, expr_cycles}
 use Rattle.tcel_tool.specs.Walks.{Counts, Then, Passes}
-use Rattle.tcel_tool.proofs.Ahead.{Due, Ahead, IsAt, quietly, showing, after_cycles, makes}
-use Rattle.tcel_tool.proofs.ExprRuns.{Stands, stands_front, stands_back, ready_at, EndsByCycles, cycles-depth, ahead_at, quiet_step, expr_runs}
+use Rattle.tcel_tool.proofs.Steps.{Setting, AheadAt, ready_at, ahead_at, quiet_step}
+use Rattle.tcel_tool.proofs.Ahead.{Due, quietly}
+use Rattle.tcel_tool.proofs.ExprRuns.{Stands, stands_front, stands_back, cycles-depth, expr_runs}
 use Rattle.tcel_core.proofs.Remain.{takes, takes-append}
 use Rattle.tcel_core.proofs.Scope.{IsSound, value_front}
 use Rattle.tcel_tool.proofs.Dues.{AllSuit, suit_split, no_dues}
 
--- with what a frame's statements run
-pub record Setting : Type 0 where
-  pub costs : Costs
-  pub ranges : CostsInRange costs
-  pub task : ImageTask
-  pub inputs : List (List ℤ)
-  -- how the frame leaves its task
-  pub last : Running
-  pub vars : List Var
-  -- how many frames ended before this one
-  pub frame : ℕ
-  -- what lies on the stack below
-  pub stack : List ℤ
-
 module _ (s : Setting) where
   open s use {costs, ranges, task, inputs, last, vars, frame, stack}
-
-  -- what the frame has ahead of it at a place, with these words on the stack and in its cells, when it has run so many ticks and its next one comes at a time or later
-  abbrev pub AheadAt : (ran since p : ℕ) (stack cells : List ℤ) (taken : List ℕ) → List Due → Type 0
-  AheadAt ran since p stack cells taken dues = Ahead costs task inputs last ran since (ready_at p stack cells frame taken) dues
 
   -- when the frame was released
   abbrev pub release : ℕ
@@ -55,7 +29,7 @@ module _ (s : Setting) where
   -- its next tick comes at a time or later
   abbrev pub From : ℕ → ℕ → List Due → (p : ℕ) (cells others : List ℤ) (taken : List ℕ) → Type 0
   From most floor dues p cells others taken =
-      (ran since : ℕ) → ran ≤ most → release + ran ≤ since → floor ≤ since → AheadAt ran since p stack (cells ++ others) taken dues
+      (ran since : ℕ) → ran ≤ most → release + ran ≤ since → floor ≤ since → AheadAt s ran since p stack (cells ++ others) taken dues
 
   -- from one place to another a frame does what statements mean, from a count of a walk on: with at most so many ticks run it comes to the walk's end with at most as many run,
   -- and each of its events is made by its count; of the words behind those of the variables, the lowest stay
@@ -83,7 +57,7 @@ module _ (s : Setting) where
 
   -- cycles without an event
   abbrev pub pass_goes : (n : ℕ) (m : Memory) (low p q entry floor : ℕ) (cells others left : List ℤ) (taken : List ℕ) → length left ≡ length others → ((j : ℕ) → j < low → get_or left j (pos 0) ≡ get_or others j (pos 0)) →
-      ((dues : List Due) (ran since : ℕ) → AheadAt (ran + n) (since + n) q stack (m.cells ++ left) taken dues → AheadAt ran since p stack (cells ++ others) taken dues) →
+      ((dues : List Due) (ran since : ℕ) → AheadAt s (ran + n) (since + n) q stack (m.cells ++ left) taken dues → AheadAt s ran since p stack (cells ++ others) taken dues) →
       Goes (Passes n) (quiet m) low p q entry floor cells others taken
   pass_goes n m low p q entry floor cells others left taken long kept passes = record {
     end = entry + n;
@@ -95,7 +69,7 @@ module _ (s : Setting) where
     kept = kept;
     ahead =
         λ dues later suit then' ran since h waited low'.
-        subst (λ l. AheadAt ran since p stack (cells ++ others) taken (l ++ later)) (sym (no_dues release floor [] dues suit))
+        subst (λ l. AheadAt s ran since p stack (cells ++ others) taken (l ++ later)) (sym (no_dues release floor [] dues suit))
         (passes later ran since (then' (ran + n) (since + n) (omega arith) (omega arith) (omega arith)));
   }
 
@@ -117,8 +91,8 @@ module _ (s : Setting) where
         kept = λ j h. refl;
         ahead =
             λ dues later suit then' ran since h waited low.
-            subst (λ l. AheadAt ran since p stack (m.cells ++ others) taken (l ++ later)) (sym (no_dues release floor [] dues suit))
-            (subst (λ k. AheadAt ran since k stack (m.cells ++ others) taken later) here (then' ran since h waited low));
+            subst (λ l. AheadAt s ran since p stack (m.cells ++ others) taken (l ++ later)) (sym (no_dues release floor [] dues suit))
+            (subst (λ k. AheadAt s ran since k stack (m.cells ++ others) taken later) here (then' ran since h waited low));
       }
 
   abbrev pub then_goes : (first second : Counts) (o : Outcome) (more : Memory → Outcome) (low higher p q r entry floor : ℕ) (cells others : List ℤ) (taken : List ℕ) → low ≤ higher →
@@ -138,10 +112,10 @@ module _ (s : Setting) where
         let e = ap (λ l. l ++ later) split.joined ∙ append_assoc split.front split.back later in
         let final = (more o.memory).memory.cells in
         let end_taken = takes-append o.events (more o.memory).events taken in
-        subst (λ l. AheadAt ran since p stack (cells ++ others) taken l) (sym e)
+        subst (λ l. AheadAt s ran since p stack (cells ++ others) taken l) (sym e)
         (one.ahead split.front (split.back ++ later) split.one
         (two.ahead split.back later split.two
-        (λ ran' since' h' waited' floor'. subst (λ t. AheadAt ran' since' r stack (final ++ two.left) t later) end_taken (then' ran' since' h' waited' floor')))
+        (λ ran' since' h' waited' floor'. subst (λ t. AheadAt s ran' since' r stack (final ++ two.left) t later) end_taken (then' ran' since' h' waited' floor')))
         ran since h waited low');
   }
 
@@ -153,46 +127,30 @@ module _ (s : Setting) where
       subst (λ q. Goes (Then first second) (then_run o more) low p q entry floor cells others taken) there
       (then_goes first second o more low higher p (p + length a) (p + length a + length b) entry floor cells others taken le one two)
 
-  -- an instruction that makes an entry
-  pub show_step : (instr : Instr) (depth : ℕ) → EndsByCycles costs task.period instr → 0 < cycles costs instr →
-      (p p' ran since : ℕ) (stack stack' cells cells' : List ℤ) (taken taken' : List ℕ) (due : Due) (later : List Due) → slice_get task.code p ≡ Some (record { instr = instr; depth = depth }) →
-      ((spent : ℕ) → effect (state_words task.states) inputs instr (after_cycles spent (ready_at p stack cells frame taken)) ≡ showing due.promise.what (ready_at p' stack' cells' frame taken')) →
-      due.promise.earliest ≤ suc since → ran + cycles costs instr ≤ due.by →
-      AheadAt (ran + cycles costs instr) (since + cycles costs instr) p' stack' cells' taken' later →
-      AheadAt ran since p stack cells taken (due ∷ later)
-  show_step instr depth by some p p' ran since stack stack' cells cells' taken taken' due later here does early soon ahead =
-      let r = ready_at p stack cells frame taken in
-      let more : ℕ = cycles costs instr - 1 in
-      let n : cycles costs instr ≡ suc more = omega arith in
-      let is : IsAt costs task instr more r =
-      record { depth = depth; here = here; lasts = λ now spent. by now (after_cycles spent r) ∙ ap (λ k. nat_le k (spent + 1)) n } in
-      makes costs task inputs instr more r is last (ready_at p' stack' cells' frame taken') due later ran since (does more) refl early (omega arith)
-      (subst (λ k. AheadAt (ran + k) (since + k) p' stack' cells' taken' later) n ahead)
-
   -- a sound expression's code, with other words behind those of the variables
   pub value_runs : (e : Expr) → IsSound vars e → (depth p ran since : ℕ) (stack cells others : List ℤ) (taken : List ℕ) (dues : List Due) → length cells ≡ all_words vars → Stands task.code p (expr_code e vars depth) →
-      AheadAt (ran + expr_cycles costs vars e) (since + expr_cycles costs vars e) (p + length (expr_code e vars depth)) (value e vars cells ∷ stack) (cells ++ others) taken dues →
-      AheadAt ran since p stack (cells ++ others) taken dues
+      AheadAt s (ran + expr_cycles costs vars e) (since + expr_cycles costs vars e) (p + length (expr_code e vars depth)) (value e vars cells ∷ stack) (cells ++ others) taken dues →
+      AheadAt s ran since p stack (cells ++ others) taken dues
   value_runs e sound depth p ran since stack cells others taken dues long stands ahead =
       let same = value_front e vars cells others sound.scope long in
       let all = cycles-depth e costs vars depth 0 in
       let there = p + length (expr_code e vars depth) in
-      expr_runs costs ranges task inputs last vars (cells ++ others) frame taken dues e sound.operands depth p ran since stack stands
-      (subst (λ x. AheadAt (ran + code_cycles costs (expr_code e vars depth)) (since + code_cycles costs (expr_code e vars depth)) there (x ∷ stack) (cells ++ others) taken dues) (sym same)
-      (ahead_at costs task inputs last frame taken dues _ _ _ _ there there (value e vars cells ∷ stack) (cells ++ others) (omega arith) (omega arith) refl ahead))
+      expr_runs s (cells ++ others) taken dues e sound.operands depth p ran since stack stands
+      (subst (λ x. AheadAt s (ran + code_cycles costs (expr_code e vars depth)) (since + code_cycles costs (expr_code e vars depth)) there (x ∷ stack) (cells ++ others) taken dues) (sym same)
+      (ahead_at s taken dues _ _ _ _ there there (value e vars cells ∷ stack) (cells ++ others) (omega arith) (omega arith) refl ahead))
 
   -- a test, which goes on behind it where it holds, and else at the target
   pub test_runs : (test : Expr) → IsSound vars test → (p target ran since : ℕ) (cells others : List ℤ) (taken : List ℕ) (dues : List Due) → length cells ≡ all_words vars →
       Stands task.code p (expr_code test vars 0 ++ at 1 (Branch target)) → (b : Bool) → holds (value test vars cells) ≡ b →
-      AheadAt (ran + (expr_cycles costs vars test + costs.branch)) (since + (expr_cycles costs vars test + costs.branch))
+      AheadAt s (ran + (expr_cycles costs vars test + costs.branch)) (since + (expr_cycles costs vars test + costs.branch))
       (cond b (p + length (expr_code test vars 0) + 1) target) stack (cells ++ others) taken dues →
-      AheadAt ran since p stack (cells ++ others) taken dues
+      AheadAt s ran since p stack (cells ++ others) taken dues
   test_runs test sound p target ran since cells others taken dues long stands b is ahead =
       let before = expr_code test vars 0 in
       let on = p + length before + 1 in
       value_runs test sound 0 p ran since stack cells others taken dues long (stands_front task.code p before (at 1 (Branch target)) stands)
-      (quiet_step costs task inputs last frame taken dues (Branch target) 1 (λ now r. refl) (ranges keys.Branch).0 (p + length before) (cond b on target)
+      (quiet_step s taken dues (Branch target) 1 (λ now r. refl) (ranges keys.Branch).0 (p + length before) (cond b on target)
       (ran + expr_cycles costs vars test) (since + expr_cycles costs vars test) (value test vars cells ∷ stack) stack (cells ++ others) (cells ++ others)
       (stands_back task.code p before (at 1 (Branch target)) stands).0
       (λ spent. ap (λ c. quietly (ready_at (cond c on target) stack (cells ++ others) frame taken)) is)
-      (ahead_at costs task inputs last frame taken dues _ _ _ _ (cond b on target) (cond b on target) stack (cells ++ others) (omega arith) (omega arith) refl ahead))
+      (ahead_at s taken dues _ _ _ _ (cond b on target) (cond b on target) stack (cells ++ others) (omega arith) (omega arith) refl ahead))

@@ -7,12 +7,13 @@ use Rattle.tcel_image.specs.declared.image.Instr.TheVariants.{Hold}
 use Rattle.tcel_image.specs.declared.image.Line.{Line}
 use Rattle.tcel_tool.specs.Code.{at, hold_code}
 use Rattle.tcel_tool.specs.Walks.{Counts, held_entry}
+use Rattle.tcel_tool.proofs.Steps.{Setting, AheadAt, ready_at, ahead_at}
 use Rattle.tcel_tool.proofs.Ahead.{Due, holds_on}
-use Rattle.tcel_tool.proofs.ExprRuns.{Stands, ready_at, ahead_at}
+use Rattle.tcel_tool.proofs.ExprRuns.{Stands}
 use Rattle.tcel_core.proofs.Remain.{takes}
 use Rattle.tcel_core.proofs.Bodies.{length-enclosed, takes-enclosed}
 use Rattle.tcel_tool.proofs.Dues.{AllSuit, suit_inside}
-use Rattle.tcel_tool.proofs.Runs.{Setting, AheadAt, release, Runs}
+use Rattle.tcel_tool.proofs.Runs.{release, Runs}
 
 module _ (s : Setting) (id : ℕ) (window : Window) (low p entry floor : ℕ) (cells others : List ℤ) (taken : List ℕ) (code : List Line) (walks : Counts) (o : Outcome) where
   open s use {costs, task, inputs, last, frame, stack}
@@ -51,7 +52,7 @@ module _ (s : Setting) (id : ℕ) (window : Window) (low p entry floor : ℕ) (c
             subst (λ k. AheadAt s ran since k stack (cells ++ others) taken (dues ++ later)) start_at
             (r.ahead dues later (inner_suit None of_window r.counts dues suit)
             (λ ran' since' h' waited' low'.
-            ahead_at costs task inputs last frame (takes o.events taken) later _ _ _ _ _ _ stack (o.memory.cells ++ r.left) refl refl end_at
+            ahead_at s (takes o.events taken) later _ _ _ _ _ _ stack (o.memory.cells ++ r.left) refl refl end_at
             (subst (λ t. AheadAt s ran' since' (p + length code) stack (o.memory.cells ++ r.left) t later) taken_same (then' ran' since' h' waited' (omega arith))))
             ran since h waited (omega arith));
       }
@@ -72,7 +73,7 @@ module _ (s : Setting) (id : ℕ) (window : Window) (low p entry floor : ℕ) (c
             (λ ran1 since1 h1 waited1 held1 low1.
             r.ahead dues later (inner_suit (Some bound) of_window r.counts dues suit)
             (λ ran' since' h' waited' low'.
-            ahead_at costs task inputs last frame (takes o.events taken) later _ _ _ _ _ _ stack (o.memory.cells ++ r.left) refl refl end_at
+            ahead_at s (takes o.events taken) later _ _ _ _ _ _ stack (o.memory.cells ++ r.left) refl refl end_at
             (subst (λ t. AheadAt s ran' since' (p + length (at 0 (Hold bound) ++ code)) stack (o.memory.cells ++ r.left) t later) taken_same (then' ran' since' h' waited' (omega arith))))
             ran1 since1 h1 waited1 (omega arith))
             (release s + bound) 0 ran since (omega arith) waited (omega arith) low;

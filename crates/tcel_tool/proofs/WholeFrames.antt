@@ -32,10 +32,11 @@ use Rattle.tcel_tool.proofs.Ahead.{Due, Ahead, IsAt, makes_last, showing, after_
 use Rattle.tcel_core.proofs.Bodies.{Fits, block_words, block_remains, ArePlain}
 use Rattle.tcel_tool.proofs.Dues.{AllSuit}
 use Rattle.tcel_tool.proofs.WalksGoOn.{AreUpTo}
-use Rattle.tcel_tool.proofs.Runs.{Setting, Runs, show_step}
+use Rattle.tcel_tool.proofs.Steps.{Setting, ready_at, show_step}
+use Rattle.tcel_tool.proofs.Runs.{Runs}
 use Rattle.tcel_tool.proofs.BodyRuns.{block_runs}
 use Rattle.tcel_core.proofs.Remain.{Remain, takes}
-use Rattle.tcel_tool.proofs.ExprRuns.{Stands, stands_front, stands_back, stands_all, ready_at}
+use Rattle.tcel_tool.proofs.ExprRuns.{Stands, stands_front, stands_back, stands_all}
 use Rattle.tcel_tool.proofs.Progress.{Frames, IsDue, promise_of}
 use Rattle.tcel_tool.proofs.StateWords.{states_first, states_words}
 use Rattle.tcel_core.proofs.StateWords.{length-declared_state, length-start_cells, length-state_of, states_within}
