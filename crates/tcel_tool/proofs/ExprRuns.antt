@@ -11,7 +11,12 @@ use Rattle.tcel_core.specs.declared.var.Var.{Var}
 use Rattle.tcel_core.specs.Cells.{place, width}
 use Rattle.tcel_core.specs.Language.{Expr, number, variable, element, unary, binary}
 use Rattle.tcel_core.specs.Meaning.{value}
-use Rattle.tcel_core.proofs.Scope.{HaveOperands}
+use Rattle.tcel_core.proofs.Scope.{HaveOperands, IsSound, value_front}
+use Rattle.tcel_core.specs.Cells.{all_words}
+use Rattle.std.proofs.Common.{Bool, cond}
+use Rattle.tcel_num.specs.Arithmetic.{holds}
+use Rattle.tcel_image.specs.declared.image.Instr.TheVariants.{Branch}
+use Rattle.tcel_tool.specs.Costs.{expr_cycles}
 use Rattle.tcel_image.specs.declared.costs.Costs.{Costs}
 use Rattle.tcel_image.specs.declared.costs.CostKey.TheVariants as keys
 use Rattle.tcel_image.specs.declared.image.Instr.{Instr}
@@ -137,3 +142,34 @@ module _ (s : Setting) (cells : List ℤ) (taken : List ℕ) (dues : List Due) w
       (value b vars cells ∷ value a vars cells ∷ stack) (x ∷ stack) cells cells (stands_back task.code (p + length first) second apply behind).0
       (λ spent. ap (λ words. quietly (ready_at (p + length first + length second + 1) words cells frame taken)) (cond-false _ _ _ ok.0))
       (ahead_at s taken dues _ _ _ _ _ _ (x ∷ stack) cells (omega arith) (omega arith) (omega (arith, length-append first (second ++ apply), length-append second apply)) ahead)))
+
+module _ (s : Setting) where
+  open s use {costs, ranges, task, vars, frame, stack}
+
+  -- a sound expression's code, with other words behind those of the variables
+  pub value_runs : (e : Expr) → IsSound vars e → (depth p ran since : ℕ) (stack cells others : List ℤ) (taken : List ℕ) (dues : List Due) → length cells ≡ all_words vars → Stands task.code p (expr_code e vars depth) →
+      AheadAt s (ran + expr_cycles costs vars e) (since + expr_cycles costs vars e) (p + length (expr_code e vars depth)) (value e vars cells ∷ stack) (cells ++ others) taken dues →
+      AheadAt s ran since p stack (cells ++ others) taken dues
+  value_runs e sound depth p ran since stack cells others taken dues long stands ahead =
+      let same = value_front e vars cells others sound.scope long in
+      let all = cycles-depth e costs vars depth 0 in
+      let there = p + length (expr_code e vars depth) in
+      expr_runs s (cells ++ others) taken dues e sound.operands depth p ran since stack stands
+      (subst (λ x. AheadAt s (ran + code_cycles costs (expr_code e vars depth)) (since + code_cycles costs (expr_code e vars depth)) there (x ∷ stack) (cells ++ others) taken dues) (sym same)
+      (ahead_at s taken dues _ _ _ _ there there (value e vars cells ∷ stack) (cells ++ others) (omega arith) (omega arith) refl ahead))
+
+  -- a test, which goes on behind it where it holds, and else at the target
+  pub test_runs : (test : Expr) → IsSound vars test → (p target ran since : ℕ) (cells others : List ℤ) (taken : List ℕ) (dues : List Due) → length cells ≡ all_words vars →
+      Stands task.code p (expr_code test vars 0 ++ at 1 (Branch target)) → (b : Bool) → holds (value test vars cells) ≡ b →
+      AheadAt s (ran + (expr_cycles costs vars test + costs.branch)) (since + (expr_cycles costs vars test + costs.branch))
+      (cond b (p + length (expr_code test vars 0) + 1) target) stack (cells ++ others) taken dues →
+      AheadAt s ran since p stack (cells ++ others) taken dues
+  test_runs test sound p target ran since cells others taken dues long stands b is ahead =
+      let before = expr_code test vars 0 in
+      let on = p + length before + 1 in
+      value_runs test sound 0 p ran since stack cells others taken dues long (stands_front task.code p before (at 1 (Branch target)) stands)
+      (quiet_step s taken dues (Branch target) 1 (λ now r. refl) (ranges keys.Branch).0 (p + length before) (cond b on target)
+      (ran + expr_cycles costs vars test) (since + expr_cycles costs vars test) (value test vars cells ∷ stack) stack (cells ++ others) (cells ++ others)
+      (stands_back task.code p before (at 1 (Branch target)) stands).0
+      (λ spent. ap (λ c. quietly (ready_at (cond c on target) stack (cells ++ others) frame taken)) is)
+      (ahead_at s taken dues _ _ _ _ (cond b on target) (cond b on target) stack (cells ++ others) (omega arith) (omega arith) refl ahead))

@@ -6,7 +6,12 @@ pub mod Inputs
 pub mod Dues
 pub mod WalksGoOn
 pub mod Runs
+pub mod ActRuns
+pub mod ChoiceRuns
 pub mod TimedRuns
+pub mod LoopRuns
+pub mod ForRuns
+pub mod WhileRuns
 pub mod BodyRuns
 pub mod StateWords
 pub mod Progress

@@ -158,8 +158,8 @@ module _ (costs : Costs) (ranges : CostsInRange costs) (t : Task) (fits : Fits t
   -- a frame's body on the machine
   runs : (f : ℕ) → Runs (setting f) (Walks t.body t.vars costs) body_code (does f) 0 0 0 0 (from f).cells counters (taken f)
   runs f =
-      block_runs (setting f) t.body fits (from f) 0 0 0 0 (all_words t.vars) counters (taken f) (words f) (omega arith)
-      (let long = length-replicate (loops t.body) (pos 0) in omega arith) (remain f)
+      let many = length-replicate (loops t.body) (pos 0) in
+      block_runs (setting f) t.body fits (from f) 0 0 0 0 (all_words t.vars) counters (taken f) (record { words = words f; room = omega arith; remain = remain f }) (omega arith)
       (stands_front task.code 0 body_code last_code stands)
 
   abbrev mark_due : ℕ → Due
