@@ -12,13 +12,13 @@ use Rattle.tcel_core.proofs.Bodies.{ActFits}
 use Rattle.tcel_core.proofs.Remain.{takes, takes-append}
 use Rattle.tcel_core.proofs.Scope.{IsScalar}
 use Rattle.tcel_image.specs.declared.costs.CostKey.TheVariants as keys
-use Rattle.tcel_image.specs.declared.image.Instr.TheVariants.{Get, Loop, Put}
+use Rattle.tcel_image.specs.declared.image.Instr.TheVariants.{Const, Get, Loop, Put}
 use Rattle.tcel_tool.specs.Code.{at, act_code, block_code}
-use Rattle.tcel_tool.specs.Walks.{Counts, ActWalks, Walks, Then, Rounds, Passes}
+use Rattle.tcel_tool.specs.Walks.{Counts, ForWalks, ActWalks, Walks, Then, Rounds, Passes}
 use Rattle.tcel_tool.proofs.Ahead.{quietly}
 use Rattle.tcel_tool.proofs.ExprRuns.{Stands, stands_front, stands_back}
 use Rattle.tcel_tool.proofs.LoopRuns.{BodyGoes, LoopIn, AtTurn, GoesToTurn, loop_end, after_turns, begin_goes, begun, counter_word, turn_goes}
-use Rattle.tcel_tool.proofs.Runs.{Runs, InOrder, goes_by, goes_to, pass_goes, stays_goes, then_goes}
+use Rattle.tcel_tool.proofs.Runs.{Goes, Runs, InOrder, goes_by, goes_to, pass_goes, stays_goes, then_goes}
 use Rattle.tcel_tool.proofs.Steps.{Setting, LineAt, ready_at, ahead_at, quiet_step}
 
 -- a walk of rounds and then one more round
@@ -92,6 +92,14 @@ module _ (s : Setting) (l : LoopIn s) (v : ℕ) (scalar : IsScalar s.vars v) (ge
         subst (AtTurn s l (suc j) last.memory two.0.left) (sym (takes-append o.events last.events taken)) two.1,
       )
 
+  -- the whole loop
+  for_goes : (m : Memory) (p q entry : ℕ) (others : List ℤ) (taken : List ℕ) → InOrder s m (low + (1 + loops body)) others taken → LineAt s p 0 (Const (pos 0)) → LineAt s (p + 1) 1 (Put counter) →
+      p + 2 ≡ top → loop_end s l ≡ q → Goes s (ForWalks costs turns (Walks body vars costs)) (rounds turns for_round m) low p q entry floor m.cells others taken
+  for_goes m p q entry others taken order one two at_top at_end =
+      let first = begin_goes s l m p entry others taken order.words one two at_top in
+      let rest = for_turns m first.end first.left taken (begun s l m others taken order) turns (omega arith) in
+      goes_to s (then_goes s (rounds turns for_round) first rest.0) (cond-false (nat_lt turns turns) top (loop_end s l) (le-ltb turns turns (omega arith)) ∙ at_end)
+
 module _ (s : Setting) where
   open s use {costs, task, vars}
 
@@ -125,8 +133,4 @@ module _ (s : Setting) where
         body_goes = body_goes (stands_front task.code (p + 4) code line behind);
         count = (stands_back task.code (p + 4) code line behind).0;
       } in
-      let first = begin_goes s l m p entry others taken order.words stands.0 stands.1.0 refl in
-      let turns = for_turns s l v fits.0 get put (omega arith) m first.end first.left taken (begun s l m others taken order) n (omega arith) in
-      let end_at : after_turns s l n ≡ p + length (act_code (for_loop v n body) vars p counter) =
-      cond-false (nat_lt n n) (p + 2) (loop_end s l) (le-ltb n n (omega arith)) ∙ omega (arith, length-append code line) in
-      goes_to s (then_goes s (rounds n (for_round s l v fits.0 get put (omega arith))) first turns.0) end_at
+      for_goes s l v fits.0 get put (omega arith) m p (p + length (act_code (for_loop v n body) vars p counter)) entry others taken order stands.0 stands.1.0 refl (omega (arith, length-append code line))

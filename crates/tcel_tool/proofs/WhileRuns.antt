@@ -1,5 +1,5 @@
 -- The code of a `while`: its counter begins at 0, and a round tests, runs the body and counts.
-use Rattle.std.proofs.Common.{◌≡◌, ℕ, zero, suc, ◌+◌, ◌<◌, Bool, true, false, ℤ, List, [], ◌++◌, length, refl, sym, ap, ◌∙◌, subst, arith, append_assoc, length-append, inl, inr}
+use Rattle.std.proofs.Common.{pos, ◌≡◌, ℕ, zero, suc, ◌+◌, ◌<◌, Bool, true, false, ℤ, List, [], ◌++◌, length, refl, sym, ap, ◌∙◌, subst, arith, append_assoc, length-append, inl, inr}
 use Rattle.std.specs.Prelude.{nat_lt}
 use Rattle.std.proofs.lemmas.Bool.{lt-ltb, le-ltb, cond-false, cond_both, cond-true}
 use Rattle.tcel_num.specs.Arithmetic.{holds}
@@ -11,15 +11,15 @@ use Rattle.tcel_core.specs.Outcome.{Memory, quiet, rounds_while, then_run}
 use Rattle.tcel_core.proofs.Bodies.{ActFits}
 use Rattle.tcel_core.proofs.Remain.{takes}
 use Rattle.tcel_core.proofs.Scope.{IsSound}
-use Rattle.tcel_image.specs.declared.image.Instr.TheVariants.{Branch, Loop}
+use Rattle.tcel_image.specs.declared.image.Instr.TheVariants.{Branch, Const, Loop, Put}
 use Rattle.tcel_image.specs.declared.image.Line.{Line}
 use Rattle.tcel_tool.specs.Code.{at, expr_code, act_code, block_code}
 use Rattle.tcel_tool.specs.Costs.{expr_cycles}
-use Rattle.tcel_tool.specs.Walks.{Counts, ActWalks, Walks, Then, RoundsUpTo, Passes}
+use Rattle.tcel_tool.specs.Walks.{Counts, WhileWalks, ActWalks, Walks, Then, RoundsUpTo, Passes}
 use Rattle.tcel_tool.proofs.ExprRuns.{Stands, stands_front, stands_back}
 use Rattle.tcel_tool.proofs.LoopRuns.{BodyGoes, LoopIn, AtTurn, loop_end, after_turns, begin_goes, begun, turn_goes}
 use Rattle.tcel_tool.proofs.Runs.{Goes, Runs, InOrder, goes_by, goes_from, goes_to, stays_goes, test_goes, then_goes}
-use Rattle.tcel_tool.proofs.Steps.{Setting}
+use Rattle.tcel_tool.proofs.Steps.{Setting, LineAt}
 
 -- a round, and then some more and a last test
 round_and_more : (n : ℕ) (round tested : Counts) (entry end : ℕ) (events : List ℕ) → Then round (RoundsUpTo n round tested) entry end events → RoundsUpTo (suc n) round tested entry end events
@@ -43,7 +43,7 @@ round_and_more n round tested entry end events w = go w.two
 
 module _ (s : Setting) (l : LoopIn s) (test : Expr) (sound : IsSound s.vars test) (tested : Stands s.task.code l.top (expr_code test s.vars 0 ++ at 1 (Branch (loop_end s l)))) (at_body : l.top + length (expr_code test s.vars 0) + 1 ≡ l.body_at) where
   open s use {costs, vars}
-  open l use {turns, body, low, top, body_at, floor}
+  open l use {turns, are_turns, body, counter, low, top, body_at, floor}
 
   abbrev test_cycles : ℕ
   test_cycles = expr_cycles costs vars test + costs.branch
@@ -76,6 +76,15 @@ module _ (s : Setting) (l : LoopIn s) (test : Expr) (sound : IsSound s.vars test
       goes_by s Walk (test_goes s test sound false m low top (loop_end s l) entry floor others taken now.order.words tested is)
       (λ from to es w. inl (0, omega arith, record { middle = from; before = []; after = es; one = (omega arith, refl); two = w; joined = refl }))))
       at_top
+
+  -- the whole loop
+  while_goes : (m : Memory) (p q entry : ℕ) (others : List ℤ) (taken : List ℕ) → InOrder s m (low + (1 + loops body)) others taken → LineAt s p 0 (Const (pos 0)) → LineAt s (p + 1) 1 (Put counter) →
+      p + 2 ≡ top → loop_end s l ≡ q → Goes s (WhileWalks costs test_cycles turns (Walks body vars costs)) (rounds_while turns holds_in (exec body vars) m) low p q entry floor m.cells others taken
+  while_goes m p q entry others taken order one two at_top at_end =
+      let some = are_turns.some in
+      let first = begin_goes s l m p entry others taken order.words one two at_top in
+      let rest = while_turns turns 0 (omega arith) m first.end first.left taken (begun s l m others taken order) in
+      goes_to s (then_goes s (rounds_while turns holds_in (exec body vars)) first (goes_from s rest (cond-true (nat_lt 0 turns) top (loop_end s l) (lt-ltb 0 turns some)))) at_end
 
 module _ (s : Setting) where
   open s use {costs, task, vars}
@@ -118,9 +127,5 @@ module _ (s : Setting) where
         body_goes = body_goes (stands_front task.code from code line body_stands);
         count = (stands_back task.code from code line body_stands).0;
       } in
-      let some = fits.1.some in
-      let first = begin_goes s l m p entry others taken order.words stands.0 stands.1.0 refl in
-      let turns = while_turns s l test fits.0 tested refl n 0 (omega arith) m first.end first.left taken (begun s l m others taken order) in
-      let at_top = cond-true (nat_lt 0 n) (p + 2) (loop_end s l) (lt-ltb 0 n some) in
-      goes_to s (then_goes s (rounds_while n (holds_in s l test fits.0 tested refl) (exec body vars)) first (goes_from s turns at_top))
+      while_goes s l test fits.0 tested refl m p (p + length (act_code (while_loop test n body) vars p counter)) entry others taken order stands.0 stands.1.0 refl
       (omega (arith, length-append before (branch ++ (code ++ line)), length-append code line))
