@@ -1,21 +1,22 @@
 -- The code of an `if`: its test, and the branch that the test chooses.
 use Rattle.std.proofs.Common.{◌≡◌, ℕ, ◌+◌, Bool, true, false, cond, ℤ, List, [], ◌∷◌, ◌++◌, length, refl, sym, subst, arith, append_assoc, length-append, inl, inr}
-use Rattle.std.proofs.lemmas.Bool.{cond_both}
+use Rattle.std.proofs.lemmas.Bool.{cond_both, true≢false}
 use Rattle.tcel_num.specs.Arithmetic.{holds}
-use Rattle.tcel_core.specs.Cells.{all_words}
-use Rattle.tcel_core.specs.Language.{Expr}
-use Rattle.tcel_core.specs.Meaning.{value}
-use Rattle.tcel_core.specs.Outcome.{Memory, Outcome, quiet}
+use Rattle.tcel_core.specs.declared.var.Var.{Var}
+use Rattle.tcel_core.specs.Contents.{has_statement, loops}
+use Rattle.tcel_core.specs.Language.{Expr, Block, choice, done, next}
+use Rattle.tcel_core.specs.Meaning.{exec, value}
+use Rattle.tcel_core.specs.Outcome.{Memory, quiet}
 use Rattle.tcel_core.proofs.Remain.{takes}
 use Rattle.tcel_core.proofs.Scope.{IsSound}
 use Rattle.tcel_image.specs.declared.costs.CostKey.TheVariants as keys
 use Rattle.tcel_image.specs.declared.image.Instr.TheVariants.{Branch, Jump}
 use Rattle.tcel_image.specs.declared.image.Line.{Line}
-use Rattle.tcel_tool.specs.Code.{at, expr_code, branches_code, held_length}
+use Rattle.tcel_tool.specs.Code.{at, expr_code, block_code, stmt_code, branches_code, held_length}
 use Rattle.tcel_tool.specs.Costs.{expr_cycles}
-use Rattle.tcel_tool.specs.Walks.{Counts, Then, Either, Passes}
+use Rattle.tcel_tool.specs.Walks.{Walks, StmtWalks, Then, Either, Passes, jump_cost}
 use Rattle.tcel_tool.proofs.ExprRuns.{Stands, stands_front, stands_back}
-use Rattle.tcel_tool.proofs.Runs.{Goes, Runs, goes_by, goes_to, pass_goes, stays_goes, test_goes, then_goes, then_quiet}
+use Rattle.tcel_tool.proofs.Runs.{BlockDoes, Goes, Runs, StmtDoes, goes_by, goes_lower, goes_to, pass_goes, stays_goes, test_goes, then_goes, then_quiet}
 use Rattle.tcel_tool.proofs.Steps.{Setting, quiet_step}
 
 -- ---- where the branches stand
@@ -35,7 +36,7 @@ length-branches : (has : Bool) (from : ℕ) (yes_code no_code : List Line) → (
 length-branches true from yes_code no_code none = omega (arith, length-append yes_code (at 0 (Jump (from + length yes_code + 1 + length no_code)) ++ no_code))
 length-branches false from yes_code no_code none = let zero_long = none refl in omega arith
 
--- from the end of the branch that is taken where the test holds, past the other one
+-- from the end of the one branch past the other
 past_other : (s : Setting) (has : Bool) (m : Memory) (low from entry floor : ℕ) (yes_code no_code : List Line) (others : List ℤ) (taken : List ℕ) → (has ≡ false → length no_code ≡ 0) →
     Stands s.task.code from (branches_code has from yes_code no_code) →
     Goes s (Passes (cond has s.costs.jump 0)) (quiet m) low (from + length yes_code) (from + held_length has (length yes_code) + length no_code) entry floor m.cells others taken
@@ -50,50 +51,44 @@ past_other s true m low from entry floor yes_code no_code others taken none stan
 past_other s false m low from entry floor yes_code no_code others taken none stands =
     let zero_long = none refl in stays_goes s m low (from + length yes_code) (from + length yes_code + length no_code) entry floor others taken (omega arith)
 
--- ---- the whole
+-- a block without a statement has no code
+no_code : (b : Block) (vars : List Var) (from counter : ℕ) → has_statement b ≡ false → length (block_code b vars from counter) ≡ 0
+no_code done vars from counter none = refl
+no_code (next stmt rest) vars from counter none = absurd (true≢false none)
 
-module _ (s : Setting) (test : Expr) (sound : IsSound s.vars test) (m : Memory) (low p entry floor : ℕ) (others : List ℤ) (taken : List ℕ) (words : length m.cells ≡ all_words s.vars)
-    (has : Bool) (yes_code no_code : List Line) (none : has ≡ false → length no_code ≡ 0) (held other : Counts) (yes no : Memory → Outcome) where
+module _ (s : Setting) where
   open s use {costs, task, vars}
 
-  abbrev before : List Line
-  before = expr_code test vars 0
-
-  abbrev test_cycles : ℕ
-  test_cycles = expr_cycles costs vars test + costs.branch
-
-  abbrev yes_at : ℕ
-  yes_at = p + length before + 1
-
-  abbrev no_at : ℕ
-  no_at = yes_at + held_length has (length yes_code)
-
-  abbrev branches : List Line
-  branches = branches_code has yes_at yes_code no_code
-
-  abbrev choice_code : List Line
-  choice_code = before ++ (at 1 (Branch no_at) ++ branches)
-
-  abbrev BranchWalks : Counts
-  BranchWalks = Either (Then held (Passes (cond has costs.jump 0))) other
-
-  -- where each branch runs, an `if` does
-  pub choice_runs : Stands task.code p choice_code →
-      (Stands task.code yes_at yes_code → Runs s held yes_code (yes m) low yes_at (entry + test_cycles) floor m.cells others taken) →
-      (Stands task.code no_at no_code → Runs s other no_code (no m) low no_at (entry + test_cycles) floor m.cells others taken) →
-      Runs s (Then (Passes test_cycles) BranchWalks) choice_code (cond (holds (value test vars m.cells)) yes no m) low p entry floor m.cells others taken
-  choice_runs stands yes_runs no_runs =
-      let tested = stands_front task.code p (before ++ at 1 (Branch no_at)) branches (subst (Stands task.code p) (sym (append_assoc before (at 1 (Branch no_at)) branches)) stands) in
-      let behind = (stands_back task.code p before (at 1 (Branch no_at) ++ branches) stands).1 in
-      let end_at : no_at + length no_code ≡ p + length choice_code = omega (arith, length-append before (at 1 (Branch no_at) ++ branches), length-branches has yes_at yes_code no_code none) in
+  -- where both its branches do what they mean, an `if` does
+  pub choice_runs : (id : ℕ) (test : Expr) (held other : Block) → IsSound vars test → BlockDoes s held → BlockDoes s other → StmtDoes s (choice id test held other)
+  choice_runs id test held other sound held_does other_does m low p entry floor counter others taken order at_low stands =
+      let before = expr_code test vars 0 in
+      let test_cycles = expr_cycles costs vars test + costs.branch in
+      let has = has_statement other in
+      let yes_at = p + length before + 1 in
+      let yes_code = block_code held vars yes_at counter in
+      let no_at = yes_at + held_length has (length yes_code) in
+      let other_code = block_code other vars no_at (counter + loops held) in
+      let none = no_code other vars no_at (counter + loops held) in
+      let branches = branches_code has yes_at yes_code other_code in
+      let branch = at 1 (Branch no_at) in
+      let tested = stands_front task.code p (before ++ branch) branches (subst (Stands task.code p) (sym (append_assoc before branch branches)) stands) in
+      let behind = (stands_back task.code p before (branch ++ branches) stands).1 in
+      let BranchWalks = Either (Then (Walks held vars costs) (Passes (jump_cost costs other))) (Walks other vars costs) in
+      let end_at : no_at + length other_code ≡ p + length (before ++ (branch ++ branches)) = omega (arith, length-append before (branch ++ branches), length-branches has yes_at yes_code other_code none) in
+      let room = order.room in
+      cond_both (holds (value test vars m.cells)) (exec held vars) (exec other vars)
+      (λ f. Runs s (StmtWalks (choice id test held other) vars costs) (stmt_code (choice id test held other) vars p counter) (f m) low p entry floor m.cells others taken)
+      (λ is.
+      let o = exec held vars m in
+      let r = held_does m low yes_at (entry + test_cycles) floor counter others taken (record { words = order.words; room = omega arith; remain = order.remain }) at_low (yes_stands task.code has yes_at yes_code other_code behind) in
+      let past = past_other s has o.memory low yes_at r.end floor yes_code other_code r.left (takes o.events taken) none behind in
       goes_to s
-      (cond_both (holds (value test vars m.cells)) yes no (λ f. Goes s (Then (Passes test_cycles) BranchWalks) (f m) low p (no_at + length no_code) entry floor m.cells others taken)
+      (then_goes s (exec held vars) (test_goes s test sound true m low p no_at entry floor others taken order.words tested is) (goes_by s BranchWalks (then_quiet s r past) (λ from to es w. inl w)))
+      end_at)
       (λ is.
-      let r = yes_runs (yes_stands task.code has yes_at yes_code no_code behind) in
-      let o = yes m in
-      then_goes s yes (test_goes s test sound true m low p no_at entry floor others taken words tested is)
-      (goes_by s BranchWalks (then_quiet s r (past_other s has o.memory low yes_at r.end floor yes_code no_code r.left (takes o.events taken) none behind)) (λ from to es w. inl w)))
-      (λ is.
-      then_goes s no (test_goes s test sound false m low p no_at entry floor others taken words tested is)
-      (goes_by s BranchWalks (no_runs (no_stands task.code has yes_at yes_code no_code none behind)) (λ from to es w. inr w))))
-      end_at
+      let r = other_does m (low + loops held) no_at (entry + test_cycles) floor (counter + loops held) others taken (record { words = order.words; room = omega arith; remain = order.remain }) (omega arith)
+      (no_stands task.code has yes_at yes_code other_code none behind) in
+      goes_to s
+      (then_goes s (exec other vars) (test_goes s test sound false m low p no_at entry floor others taken order.words tested is) (goes_by s BranchWalks (goes_lower s low r (omega arith)) (λ from to es w. inr w)))
+      end_at)

@@ -1,31 +1,27 @@
 -- The code of expressions on the machine.
-use Rattle.std.proofs.Common.{◌≡◌, ℕ, ◌+◌, ◌<◌, ℤ, List, [], ◌∷◌, ◌++◌, length, refl, sym, ap, ◌∙◌, subst, arith, append_assoc, length-append, Some}
+use Rattle.std.proofs.Common.{◌≡◌, ℕ, ◌+◌, ◌<◌, Bool, cond, ℤ, List, [], ◌∷◌, ◌++◌, length, refl, sym, ap, ◌∙◌, subst, arith, append_assoc, length-append, Some}
 use Rattle.std.specs.Prelude.{slice_get}
 use Rattle.std.proofs.Math.Seq.{get_or-append_seam}
 use Rattle.std.proofs.lemmas.Bool.{cond-true, cond-false}
 use Rattle.std.proofs.lemmas.Option.{slice_get-get_or}
 use Rattle.std.proofs.lemmas.List.Sums.{sum_by-append}
+use Rattle.tcel_num.specs.Arithmetic.{holds}
 use Rattle.tcel_num.specs.declared.op.Op.{Op}
 use Rattle.tcel_num.specs.declared.op.Op.TheVariants.{Mul, Div, Rem}
 use Rattle.tcel_core.specs.declared.var.Var.{Var}
-use Rattle.tcel_core.specs.Cells.{place, width}
+use Rattle.tcel_core.specs.Cells.{all_words, place, width}
 use Rattle.tcel_core.specs.Language.{Expr, number, variable, element, unary, binary}
 use Rattle.tcel_core.specs.Meaning.{value}
 use Rattle.tcel_core.proofs.Scope.{HaveOperands, IsSound, value_front}
-use Rattle.tcel_core.specs.Cells.{all_words}
-use Rattle.std.proofs.Common.{Bool, cond}
-use Rattle.tcel_num.specs.Arithmetic.{holds}
-use Rattle.tcel_image.specs.declared.image.Instr.TheVariants.{Branch}
-use Rattle.tcel_tool.specs.Costs.{expr_cycles}
 use Rattle.tcel_image.specs.declared.costs.Costs.{Costs}
 use Rattle.tcel_image.specs.declared.costs.CostKey.TheVariants as keys
 use Rattle.tcel_image.specs.declared.image.Instr.{Instr}
-use Rattle.tcel_image.specs.declared.image.Instr.TheVariants.{Const, Get, GetAt, Arith}
+use Rattle.tcel_image.specs.declared.image.Instr.TheVariants.{Const, Get, GetAt, Arith, Branch}
 use Rattle.tcel_image.specs.declared.image.Line.{Line}
 use Rattle.tcel_image.specs.Costs.{CostsInRange}
 use Rattle.tcel_image.specs.Instructions.{cycles, operator_cycles}
 use Rattle.tcel_tool.specs.Code.{at, expr_code}
-use Rattle.tcel_tool.specs.Costs.{code_cycles}
+use Rattle.tcel_tool.specs.Costs.{code_cycles, expr_cycles}
 use Rattle.tcel_tool.proofs.Steps.{Setting, AheadAt, ahead_at, ready_at, quiet_step}
 use Rattle.tcel_tool.proofs.Ahead.{Due, quietly}
 

@@ -3,10 +3,10 @@ use Rattle.std.proofs.Common.{pos, ◌≡◌, ℕ, zero, suc, ◌+◌, ◌<◌, 
 use Rattle.std.specs.Prelude.{nat_lt}
 use Rattle.std.proofs.lemmas.Bool.{lt-ltb, le-ltb, cond-false, cond-true}
 use Rattle.std.proofs.lemmas.List.{length-set, set-append_left}
-use Rattle.tcel_core.specs.Cells.{all_words, place, set_word}
+use Rattle.tcel_core.specs.Cells.{place, set_word}
 use Rattle.tcel_core.specs.Contents.{loops}
 use Rattle.tcel_core.specs.Language.{Block, for_loop}
-use Rattle.tcel_core.specs.Meaning.{exec, exec_act, with_cells}
+use Rattle.tcel_core.specs.Meaning.{exec, with_cells}
 use Rattle.tcel_core.specs.Outcome.{Memory, Outcome, rounds}
 use Rattle.tcel_core.proofs.Bodies.{ActFits}
 use Rattle.tcel_core.proofs.Remain.{takes, takes-append}
@@ -14,11 +14,11 @@ use Rattle.tcel_core.proofs.Scope.{IsScalar}
 use Rattle.tcel_image.specs.declared.costs.CostKey.TheVariants as keys
 use Rattle.tcel_image.specs.declared.image.Instr.TheVariants.{Const, Get, Loop, Put}
 use Rattle.tcel_tool.specs.Code.{at, act_code, block_code}
-use Rattle.tcel_tool.specs.Walks.{Counts, ForWalks, ActWalks, Walks, Then, Rounds, Passes}
+use Rattle.tcel_tool.specs.Walks.{Counts, ForWalks, Walks, Then, Rounds, Passes}
 use Rattle.tcel_tool.proofs.Ahead.{quietly}
 use Rattle.tcel_tool.proofs.ExprRuns.{Stands, stands_front, stands_back}
-use Rattle.tcel_tool.proofs.LoopRuns.{BodyGoes, LoopIn, AtTurn, GoesToTurn, loop_end, after_turns, begin_goes, begun, counter_word, turn_goes}
-use Rattle.tcel_tool.proofs.Runs.{Goes, Runs, InOrder, goes_by, goes_to, pass_goes, stays_goes, then_goes}
+use Rattle.tcel_tool.proofs.LoopRuns.{LoopIn, AtTurn, GoesToTurn, loop_end, after_turns, begin_goes, begun, counter_word, turn_goes}
+use Rattle.tcel_tool.proofs.Runs.{ActDoes, BlockDoes, Goes, InOrder, goes_by, goes_to, pass_goes, stays_goes, then_goes}
 use Rattle.tcel_tool.proofs.Steps.{Setting, LineAt, ready_at, ahead_at, quiet_step}
 
 -- a walk of rounds and then one more round
@@ -103,13 +103,9 @@ module _ (s : Setting) (l : LoopIn s) (v : ℕ) (scalar : IsScalar s.vars v) (ge
 module _ (s : Setting) where
   open s use {costs, task, vars}
 
-  -- where its body runs, a `for` does
-  pub for_runs : (v n : ℕ) (body : Block) → ActFits (for_loop v n body) vars → (m : Memory) (low p entry floor counter : ℕ) (others : List ℤ) (taken : List ℕ) →
-      InOrder s m (low + (1 + loops body)) others taken → counter ≡ all_words vars + low →
-      (Stands task.code (p + 4) (block_code body vars (p + 4) (counter + 1)) → BodyGoes s body (suc low) (p + 4) floor (block_code body vars (p + 4) (counter + 1))) →
-      Stands task.code p (act_code (for_loop v n body) vars p counter) →
-      Runs s (ActWalks (for_loop v n body) vars costs) (act_code (for_loop v n body) vars p counter) (exec_act (for_loop v n body) vars m) low p entry floor m.cells others taken
-  for_runs v n body fits m low p entry floor counter others taken order at_low body_goes stands =
+  -- where its body does what it means, a `for` does
+  pub for_runs : (v n : ℕ) (body : Block) → ActFits (for_loop v n body) vars → BlockDoes s body → ActDoes s (for_loop v n body)
+  for_runs v n body fits body_does m low p entry floor counter others taken order at_low stands =
       let code = block_code body vars (p + 4) (counter + 1) in
       let line = at 0 (Loop counter n (p + 2)) in
       let two : p + 1 + 1 ≡ p + 2 = omega arith in
@@ -130,7 +126,8 @@ module _ (s : Setting) where
         body_at = p + 4;
         code = code;
         floor = floor;
-        body_goes = body_goes (stands_front task.code (p + 4) code line behind);
+        body_goes =
+            λ m' entry' others' taken' order'. body_does m' (suc low) (p + 4) entry' floor (counter + 1) others' taken' order' (omega arith) (stands_front task.code (p + 4) code line behind);
         count = (stands_back task.code (p + 4) code line behind).0;
       } in
       for_goes s l v fits.0 get put (omega arith) m p (p + length (act_code (for_loop v n body) vars p counter)) entry others taken order stands.0 stands.1.0 refl (omega (arith, length-append code line))

@@ -36,28 +36,22 @@ counter_set vars cells others counter low x words at_low =
     let past : counter - length cells ≡ low = omega arith in
     set-append_right cells others (length cells) counter x refl (omega arith) ∙ ap (λ k. cells ++ set others k x) past
 
--- a body at a place, wherever a walk comes to it, with words of counters behind those of the variables
-abbrev pub BodyGoes : (s : Setting) (body : Block) (low p floor : ℕ) (code : List Line) → Type 0
-BodyGoes s body low p floor code =
-    (m : Memory) (entry : ℕ) (others : List ℤ) (taken : List ℕ) → InOrder s m (low + loops body) others taken →
-    Runs s (Walks body s.vars s.costs) code (exec body s.vars m) low p entry floor m.cells others taken
-
--- a loop in the code
+-- a loop in the code: a round starts at its top, and its body stands before the count
 pub record LoopIn (s : Setting) : Type 0 where
   pub turns : ℕ
   pub are_turns : AreTurns turns
   pub body : Block
   pub fits : Fits body s.vars
-  -- the place of its counter, among all words and among those behind the variables'
+  -- where its counter is, among all words and among those behind the variables'
   pub counter : ℕ
   pub low : ℕ
   pub at_low : counter ≡ all_words s.vars + low
-  -- where a round starts, and where its body does
   pub top : ℕ
   pub body_at : ℕ
   pub code : List Line
   pub floor : ℕ
-  pub body_goes : BodyGoes s body (suc low) body_at floor code
+  pub body_goes : (m : Memory) (entry : ℕ) (others : List ℤ) (taken : List ℕ) → InOrder s m (suc low + loops body) others taken →
+      Runs s (Walks body s.vars s.costs) code (exec body s.vars m) (suc low) body_at entry floor m.cells others taken
   pub count : LineAt s (body_at + length code) 0 (Loop counter turns top)
 
 module _ (s : Setting) (l : LoopIn s) where
@@ -127,16 +121,16 @@ module _ (s : Setting) (l : LoopIn s) where
   -- a body and the count behind it
   pub turn_goes : (j : ℕ) (m : Memory) (entry : ℕ) (others : List ℤ) (taken : List ℕ) → AtTurn j m others taken → j < turns →
       GoesToTurn (Then (Walks body vars costs) (Passes costs.loop_)) (exec body vars m) (suc j) body_at entry m others taken
-  turn_goes j m entry others taken at less =
-      let room = at.order.room in
-      let r = l.body_goes m entry others taken (record { words = at.order.words; room = omega arith; remain = at.order.remain }) in
+  turn_goes j m entry others taken now less =
+      let room = now.order.room in
+      let r = l.body_goes m entry others taken (record { words = now.order.words; room = omega arith; remain = now.order.remain }) in
       let o = exec body vars m in
-      let words = block_words body vars fits m at.order.words in
+      let words = block_words body vars fits m now.order.words in
       let same = r.as_many in
       let longer = length-set r.left low (pos (suc j)) in (
-        then_quiet s (goes_lower s low r (omega arith)) (count_goes j o.memory r.end r.left (takes o.events taken) words (r.kept low (omega arith) ∙ at.counted) less),
+        then_quiet s (goes_lower s low r (omega arith)) (count_goes j o.memory r.end r.left (takes o.events taken) words (r.kept low (omega arith) ∙ now.counted) less),
         record {
-          order = record { words = words; room = omega arith; remain = block_remains body vars fits inputs m taken at.order.remain };
+          order = record { words = words; room = omega arith; remain = block_remains body vars fits inputs m taken now.order.remain };
           counted = get_or-set_same r.left low (pos (suc j)) (pos 0) (omega arith);
         },
       )

@@ -3,17 +3,18 @@ use Rattle.std.proofs.Common.{pos, ◌≡◌, ℕ, suc, ◌+◌, ◌*◌, ◌<�
 use Rattle.tcel_num.specs.Arithmetic.{holds}
 use Rattle.tcel_core.specs.declared.event.EventKind.{EventKind}
 use Rattle.tcel_core.specs.Cells.{all_words}
-use Rattle.tcel_core.specs.Language.{Expr}
-use Rattle.tcel_core.specs.Meaning.{value}
+use Rattle.tcel_core.specs.Contents.{act_loops, stmt_loops, loops}
+use Rattle.tcel_core.specs.Language.{Expr, Block, Stmt, Act}
+use Rattle.tcel_core.specs.Meaning.{exec, exec_act, exec_stmt, value}
 use Rattle.tcel_core.specs.Outcome.{Memory, Occurrence, Outcome, event, quiet, then_run}
 use Rattle.tcel_core.specs.Promises.{what_of}
 use Rattle.tcel_core.proofs.Remain.{Remain, take_one, takes, takes-append}
 use Rattle.tcel_core.proofs.Scope.{IsSound}
 use Rattle.tcel_image.specs.declared.image.Instr.TheVariants.{Branch}
 use Rattle.tcel_image.specs.declared.image.Line.{Line}
-use Rattle.tcel_tool.specs.Code.{at, expr_code}
+use Rattle.tcel_tool.specs.Code.{at, expr_code, block_code, stmt_code, act_code}
 use Rattle.tcel_tool.specs.Costs.{expr_cycles}
-use Rattle.tcel_tool.specs.Walks.{Counts, Then, Passes, Shows}
+use Rattle.tcel_tool.specs.Walks.{Counts, Walks, StmtWalks, ActWalks, Then, Passes, Shows}
 use Rattle.tcel_tool.proofs.Ahead.{Due}
 use Rattle.tcel_tool.proofs.Dues.{AllSuit, suit_split, no_dues, one_due}
 use Rattle.tcel_tool.proofs.ExprRuns.{Stands, test_runs}
@@ -59,6 +60,21 @@ module _ (s : Setting) where
     pub words : length m.cells ≡ all_words vars
     pub room : counters ≤ length others
     pub remain : Remain inputs m.inputs taken
+
+  -- code does what statements mean, wherever it stands and whenever a walk comes to it; the counters of its loops stand behind those of the loops around it
+  abbrev pub Does : (walks : Counts) (code : ℕ → ℕ → List Line) (means : Memory → Outcome) (loops : ℕ) → Type 0
+  Does walks code means loops =
+      (m : Memory) (low p entry floor counter : ℕ) (others : List ℤ) (taken : List ℕ) → InOrder m (low + loops) others taken → counter ≡ all_words vars + low → Stands task.code p (code p counter) →
+      Runs walks (code p counter) (means m) low p entry floor m.cells others taken
+
+  abbrev pub BlockDoes : Block → Type 0
+  BlockDoes b = Does (Walks b vars costs) (block_code b vars) (exec b vars) (loops b)
+
+  abbrev pub StmtDoes : Stmt → Type 0
+  StmtDoes stmt = Does (StmtWalks stmt vars costs) (stmt_code stmt vars) (exec_stmt stmt vars) (stmt_loops stmt)
+
+  abbrev pub ActDoes : Act → Type 0
+  ActDoes act = Does (ActWalks act vars costs) (act_code act vars) (exec_act act vars) (act_loops act)
 
   -- ---- the same, in other words
 

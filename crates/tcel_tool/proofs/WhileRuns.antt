@@ -3,22 +3,20 @@ use Rattle.std.proofs.Common.{pos, ◌≡◌, ℕ, zero, suc, ◌+◌, ◌<◌, 
 use Rattle.std.specs.Prelude.{nat_lt}
 use Rattle.std.proofs.lemmas.Bool.{lt-ltb, le-ltb, cond-false, cond_both, cond-true}
 use Rattle.tcel_num.specs.Arithmetic.{holds}
-use Rattle.tcel_core.specs.Cells.{all_words}
 use Rattle.tcel_core.specs.Contents.{loops}
 use Rattle.tcel_core.specs.Language.{Expr, Block, while_loop}
-use Rattle.tcel_core.specs.Meaning.{exec, exec_act, value}
+use Rattle.tcel_core.specs.Meaning.{exec, value}
 use Rattle.tcel_core.specs.Outcome.{Memory, quiet, rounds_while, then_run}
 use Rattle.tcel_core.proofs.Bodies.{ActFits}
 use Rattle.tcel_core.proofs.Remain.{takes}
 use Rattle.tcel_core.proofs.Scope.{IsSound}
 use Rattle.tcel_image.specs.declared.image.Instr.TheVariants.{Branch, Const, Loop, Put}
-use Rattle.tcel_image.specs.declared.image.Line.{Line}
 use Rattle.tcel_tool.specs.Code.{at, expr_code, act_code, block_code}
 use Rattle.tcel_tool.specs.Costs.{expr_cycles}
-use Rattle.tcel_tool.specs.Walks.{Counts, WhileWalks, ActWalks, Walks, Then, RoundsUpTo, Passes}
+use Rattle.tcel_tool.specs.Walks.{Counts, WhileWalks, Walks, Then, RoundsUpTo, Passes}
 use Rattle.tcel_tool.proofs.ExprRuns.{Stands, stands_front, stands_back}
-use Rattle.tcel_tool.proofs.LoopRuns.{BodyGoes, LoopIn, AtTurn, loop_end, after_turns, begin_goes, begun, turn_goes}
-use Rattle.tcel_tool.proofs.Runs.{Goes, Runs, InOrder, goes_by, goes_from, goes_to, stays_goes, test_goes, then_goes}
+use Rattle.tcel_tool.proofs.LoopRuns.{LoopIn, AtTurn, loop_end, after_turns, begin_goes, begun, turn_goes}
+use Rattle.tcel_tool.proofs.Runs.{ActDoes, BlockDoes, Goes, InOrder, goes_by, goes_from, goes_to, stays_goes, test_goes, then_goes}
 use Rattle.tcel_tool.proofs.Steps.{Setting, LineAt}
 
 -- a round, and then some more and a last test
@@ -89,23 +87,12 @@ module _ (s : Setting) (l : LoopIn s) (test : Expr) (sound : IsSound s.vars test
 module _ (s : Setting) where
   open s use {costs, task, vars}
 
-  -- where its body stands, and the body's code
-  abbrev pub body_at : Expr → ℕ → ℕ
-  body_at test p = p + 2 + length (expr_code test vars 0) + 1
-
-  abbrev pub body_code : Expr → Block → (p counter : ℕ) → List Line
-  body_code test body p counter = block_code body vars (body_at test p) (counter + 1)
-
-  -- where its body runs, a `while` does
-  pub while_runs : (test : Expr) (n : ℕ) (body : Block) → ActFits (while_loop test n body) vars → (m : Memory) (low p entry floor counter : ℕ) (others : List ℤ) (taken : List ℕ) →
-      InOrder s m (low + (1 + loops body)) others taken → counter ≡ all_words vars + low →
-      (Stands task.code (body_at test p) (body_code test body p counter) → BodyGoes s body (suc low) (body_at test p) floor (body_code test body p counter)) →
-      Stands task.code p (act_code (while_loop test n body) vars p counter) →
-      Runs s (ActWalks (while_loop test n body) vars costs) (act_code (while_loop test n body) vars p counter) (exec_act (while_loop test n body) vars m) low p entry floor m.cells others taken
-  while_runs test n body fits m low p entry floor counter others taken order at_low body_goes stands =
+  -- where its body does what it means, a `while` does
+  pub while_runs : (test : Expr) (n : ℕ) (body : Block) → ActFits (while_loop test n body) vars → BlockDoes s body → ActDoes s (while_loop test n body)
+  while_runs test n body fits body_does m low p entry floor counter others taken order at_low stands =
       let before = expr_code test vars 0 in
-      let from = body_at test p in
-      let code = body_code test body p counter in
+      let from = p + 2 + length before + 1 in
+      let code = block_code body vars from (counter + 1) in
       let line = at 0 (Loop counter n (p + 2)) in
       let branch = at 1 (Branch (from + length code + 1)) in
       let two : p + 1 + 1 ≡ p + 2 = omega arith in
@@ -124,7 +111,8 @@ module _ (s : Setting) where
         body_at = from;
         code = code;
         floor = floor;
-        body_goes = body_goes (stands_front task.code from code line body_stands);
+        body_goes =
+            λ m' entry' others' taken' order'. body_does m' (suc low) from entry' floor (counter + 1) others' taken' order' (omega arith) (stands_front task.code from code line body_stands);
         count = (stands_back task.code from code line body_stands).0;
       } in
       while_goes s l test fits.0 tested refl m p (p + length (act_code (while_loop test n body) vars p counter)) entry others taken order stands.0 stands.1.0 refl
