@@ -10,7 +10,7 @@ use Rattle.tcel_tool.proofs.ActRuns.{assign_runs, assign_at_runs, copy_runs, rec
 use Rattle.tcel_tool.proofs.ChoiceRuns.{choice_runs}
 use Rattle.tcel_tool.proofs.ExprRuns.{stands_front, stands_back}
 use Rattle.tcel_tool.proofs.ForRuns.{for_runs}
-use Rattle.tcel_tool.proofs.Runs.{ActDoes, BlockDoes, StmtDoes, InOrder, goes_lower, stays_goes, then_runs}
+use Rattle.tcel_tool.proofs.Runs.{ActDoes, BlockDoes, StmtDoes, InOrder, goes_lower, stays_goes, then_runs, with_fewer}
 use Rattle.tcel_tool.proofs.Steps.{Setting}
 use Rattle.tcel_tool.proofs.TimedRuns.{timed_runs}
 use Rattle.tcel_tool.proofs.WhileRuns.{while_runs}
@@ -26,8 +26,7 @@ module _ (s : Setting) where
   next_runs stmt rest fits stmt_does rest_does m low p entry floor counter others taken order at_low stands =
       let code = stmt_code stmt vars p counter in
       let behind = block_code rest vars (p + length code) (counter + stmt_loops stmt) in
-      let room = order.room in
-      let one = stmt_does m low p entry floor counter others taken (record { words = order.words; room = omega arith; remain = order.remain }) at_low (stands_front task.code p code behind stands) in
+      let one = stmt_does m low p entry floor counter others taken (with_fewer s order (omega arith)) at_low (stands_front task.code p code behind stands) in
       let o = exec_stmt stmt vars m in
       let many = one.as_many in
       let left : InOrder s o.memory (low + stmt_loops stmt + loops rest) one.left (takes o.events taken) =

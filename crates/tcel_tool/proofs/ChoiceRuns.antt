@@ -16,7 +16,7 @@ use Rattle.tcel_tool.specs.Code.{at, expr_code, block_code, stmt_code, branches_
 use Rattle.tcel_tool.specs.Costs.{expr_cycles}
 use Rattle.tcel_tool.specs.Walks.{Walks, StmtWalks, Then, Either, Passes, jump_cost}
 use Rattle.tcel_tool.proofs.ExprRuns.{Stands, stands_front, stands_back}
-use Rattle.tcel_tool.proofs.Runs.{BlockDoes, Goes, Runs, StmtDoes, goes_by, goes_lower, goes_to, pass_goes, stays_goes, test_goes, then_goes, then_quiet}
+use Rattle.tcel_tool.proofs.Runs.{BlockDoes, Goes, Runs, StmtDoes, goes_by, goes_lower, goes_to, pass_goes, stays_goes, test_goes, then_goes, then_quiet, with_fewer}
 use Rattle.tcel_tool.proofs.Steps.{Setting, quiet_step}
 
 -- ---- where the branches stand
@@ -52,9 +52,9 @@ past_other s false m low from entry floor yes_code no_code others taken none sta
     let zero_long = none refl in stays_goes s m low (from + length yes_code) (from + length yes_code + length no_code) entry floor others taken (omega arith)
 
 -- a block without a statement has no code
-no_code : (b : Block) (vars : List Var) (from counter : ℕ) → has_statement b ≡ false → length (block_code b vars from counter) ≡ 0
-no_code done vars from counter none = refl
-no_code (next stmt rest) vars from counter none = absurd (true≢false none)
+no_statement : (b : Block) (vars : List Var) (from counter : ℕ) → has_statement b ≡ false → length (block_code b vars from counter) ≡ 0
+no_statement done vars from counter none = refl
+no_statement (next stmt rest) vars from counter none = absurd (true≢false none)
 
 module _ (s : Setting) where
   open s use {costs, task, vars}
@@ -69,25 +69,24 @@ module _ (s : Setting) where
       let yes_code = block_code held vars yes_at counter in
       let no_at = yes_at + held_length has (length yes_code) in
       let other_code = block_code other vars no_at (counter + loops held) in
-      let none = no_code other vars no_at (counter + loops held) in
+      let none = no_statement other vars no_at (counter + loops held) in
       let branches = branches_code has yes_at yes_code other_code in
       let branch = at 1 (Branch no_at) in
       let tested = stands_front task.code p (before ++ branch) branches (subst (Stands task.code p) (sym (append_assoc before branch branches)) stands) in
       let behind = (stands_back task.code p before (branch ++ branches) stands).1 in
       let BranchWalks = Either (Then (Walks held vars costs) (Passes (jump_cost costs other))) (Walks other vars costs) in
       let end_at : no_at + length other_code ≡ p + length (before ++ (branch ++ branches)) = omega (arith, length-append before (branch ++ branches), length-branches has yes_at yes_code other_code none) in
-      let room = order.room in
       cond_both (holds (value test vars m.cells)) (exec held vars) (exec other vars)
       (λ f. Runs s (StmtWalks (choice id test held other) vars costs) (stmt_code (choice id test held other) vars p counter) (f m) low p entry floor m.cells others taken)
       (λ is.
       let o = exec held vars m in
-      let r = held_does m low yes_at (entry + test_cycles) floor counter others taken (record { words = order.words; room = omega arith; remain = order.remain }) at_low (yes_stands task.code has yes_at yes_code other_code behind) in
+      let r = held_does m low yes_at (entry + test_cycles) floor counter others taken (with_fewer s order (omega arith)) at_low (yes_stands task.code has yes_at yes_code other_code behind) in
       let past = past_other s has o.memory low yes_at r.end floor yes_code other_code r.left (takes o.events taken) none behind in
       goes_to s
       (then_goes s (exec held vars) (test_goes s test sound true m low p no_at entry floor others taken order.words tested is) (goes_by s BranchWalks (then_quiet s r past) (λ from to es w. inl w)))
       end_at)
       (λ is.
-      let r = other_does m (low + loops held) no_at (entry + test_cycles) floor (counter + loops held) others taken (record { words = order.words; room = omega arith; remain = order.remain }) (omega arith)
+      let r = other_does m (low + loops held) no_at (entry + test_cycles) floor (counter + loops held) others taken (with_fewer s order (omega arith)) (omega arith)
       (no_stands task.code has yes_at yes_code other_code none behind) in
       goes_to s
       (then_goes s (exec other vars) (test_goes s test sound false m low p no_at entry floor others taken order.words tested is) (goes_by s BranchWalks (goes_lower s low r (omega arith)) (λ from to es w. inr w)))

@@ -46,7 +46,7 @@ rounds_and_one (suc n) round entry end events w =
     }
 
 module _ (s : Setting) (l : LoopIn s) (v : ℕ) (scalar : IsScalar s.vars v) (get : LineAt s l.top 0 (Get l.counter)) (put : LineAt s (l.top + 1) 1 (Put (place s.vars v))) (at_body : l.top + 1 + 1 ≡ l.body_at) where
-  open s use {costs, ranges, inputs, vars, frame, stack}
+  open s use {costs, ranges, vars, frame, stack}
   open l use {turns, are_turns, body, counter, low, at_low, top, body_at, floor}
 
   abbrev ForRound : Counts
@@ -101,7 +101,7 @@ module _ (s : Setting) (l : LoopIn s) (v : ℕ) (scalar : IsScalar s.vars v) (ge
       goes_to s (then_goes s (rounds turns for_round) first rest.0) (cond-false (nat_lt turns turns) top (loop_end s l) (le-ltb turns turns (omega arith)) ∙ at_end)
 
 module _ (s : Setting) where
-  open s use {costs, task, vars}
+  open s use {task, vars}
 
   -- where its body does what it means, a `for` does
   pub for_runs : (v n : ℕ) (body : Block) → ActFits (for_loop v n body) vars → BlockDoes s body → ActDoes s (for_loop v n body)

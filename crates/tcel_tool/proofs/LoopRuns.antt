@@ -18,7 +18,7 @@ use Rattle.tcel_image.specs.declared.image.Instr.TheVariants.{Const, Loop, Put}
 use Rattle.tcel_image.specs.declared.image.Line.{Line}
 use Rattle.tcel_tool.specs.Walks.{Counts, Walks, Then, Passes}
 use Rattle.tcel_tool.proofs.Ahead.{quietly}
-use Rattle.tcel_tool.proofs.Runs.{Goes, Runs, InOrder, goes_lower, pass_goes, then_quiet}
+use Rattle.tcel_tool.proofs.Runs.{Goes, Runs, InOrder, goes_lower, pass_goes, then_quiet, with_fewer}
 use Rattle.tcel_tool.proofs.Steps.{Setting, LineAt, ready_at, ahead_at, quiet_step}
 
 -- a counter counts on
@@ -55,7 +55,7 @@ pub record LoopIn (s : Setting) : Type 0 where
   pub count : LineAt s (body_at + length code) 0 (Loop counter turns top)
 
 module _ (s : Setting) (l : LoopIn s) where
-  open s use {costs, ranges, task, inputs, vars, frame, stack}
+  open s use {costs, ranges, inputs, vars, frame, stack}
   open l use {turns, are_turns, body, fits, counter, low, at_low, top, body_at, code, floor}
 
   -- behind the loop
@@ -123,7 +123,7 @@ module _ (s : Setting) (l : LoopIn s) where
       GoesToTurn (Then (Walks body vars costs) (Passes costs.loop_)) (exec body vars m) (suc j) body_at entry m others taken
   turn_goes j m entry others taken now less =
       let room = now.order.room in
-      let r = l.body_goes m entry others taken (record { words = now.order.words; room = omega arith; remain = now.order.remain }) in
+      let r = l.body_goes m entry others taken (with_fewer s now.order (omega arith)) in
       let o = exec body vars m in
       let words = block_words body vars fits m now.order.words in
       let same = r.as_many in

@@ -61,10 +61,13 @@ module _ (s : Setting) where
     pub room : counters ≤ length others
     pub remain : Remain inputs m.inputs taken
 
+  pub with_fewer : {m : Memory} {few many : ℕ} {others : List ℤ} {taken : List ℕ} → InOrder m many others taken → few ≤ many → InOrder m few others taken
+  with_fewer order le = let room = order.room in record { words = order.words; room = omega arith; remain = order.remain }
+
   -- code does what statements mean, wherever it stands and whenever a walk comes to it; the counters of its loops stand behind those of the loops around it
-  abbrev pub Does : (walks : Counts) (code : ℕ → ℕ → List Line) (means : Memory → Outcome) (loops : ℕ) → Type 0
-  Does walks code means loops =
-      (m : Memory) (low p entry floor counter : ℕ) (others : List ℤ) (taken : List ℕ) → InOrder m (low + loops) others taken → counter ≡ all_words vars + low → Stands task.code p (code p counter) →
+  abbrev pub Does : (walks : Counts) (code : ℕ → ℕ → List Line) (means : Memory → Outcome) (counters : ℕ) → Type 0
+  Does walks code means counters =
+      (m : Memory) (low p entry floor counter : ℕ) (others : List ℤ) (taken : List ℕ) → InOrder m (low + counters) others taken → counter ≡ all_words vars + low → Stands task.code p (code p counter) →
       Runs walks (code p counter) (means m) low p entry floor m.cells others taken
 
   abbrev pub BlockDoes : Block → Type 0

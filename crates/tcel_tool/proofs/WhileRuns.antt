@@ -41,7 +41,7 @@ round_and_more n round tested entry end events w = go w.two
 
 module _ (s : Setting) (l : LoopIn s) (test : Expr) (sound : IsSound s.vars test) (tested : Stands s.task.code l.top (expr_code test s.vars 0 ++ at 1 (Branch (loop_end s l)))) (at_body : l.top + length (expr_code test s.vars 0) + 1 ≡ l.body_at) where
   open s use {costs, vars}
-  open l use {turns, are_turns, body, counter, low, top, body_at, floor}
+  open l use {turns, are_turns, body, counter, low, top, floor}
 
   abbrev test_cycles : ℕ
   test_cycles = expr_cycles costs vars test + costs.branch
@@ -85,7 +85,7 @@ module _ (s : Setting) (l : LoopIn s) (test : Expr) (sound : IsSound s.vars test
       goes_to s (then_goes s (rounds_while turns holds_in (exec body vars)) first (goes_from s rest (cond-true (nat_lt 0 turns) top (loop_end s l) (lt-ltb 0 turns some)))) at_end
 
 module _ (s : Setting) where
-  open s use {costs, task, vars}
+  open s use {task, vars}
 
   -- where its body does what it means, a `while` does
   pub while_runs : (test : Expr) (n : ℕ) (body : Block) → ActFits (while_loop test n body) vars → BlockDoes s body → ActDoes s (while_loop test n body)

@@ -152,6 +152,7 @@ module _ (costs : Costs) (ranges : CostsInRange costs) (t : Task) (fits : Fits t
   stands : Stands task.code 0 (body_code ++ last_code)
   stands = stands_all (body_code ++ last_code) []
 
+  -- with what a frame runs
   abbrev setting : ℕ → Setting
   setting f = record { costs = costs; ranges = ranges; task = task; inputs = streams; last = start (suc f); vars = t.vars; frame = f; stack = [] }
 
