@@ -53,3 +53,10 @@ suit_inside release floor id window leads (c ∷ counts) (e ∷ events) (d ∷ d
       record { shows = suit.0.shows; soon = suit.0.soon; early = omega arith },
       suit_inside release floor id window false counts events dues suit.1,
     )
+
+-- the due of one event
+pub one_due : (release floor count : ℕ) (e : Occurrence) (dues : List Due) → AllSuit release floor (count ∷ []) (e ∷ []) dues → (P : List Due → Type 0) →
+    ((due : Due) → Suits release floor count e due → P (due ∷ [])) → P dues
+one_due release floor count e [] suit P then' = absurd suit
+one_due release floor count e (d ∷ []) suit P then' = then' d suit.0
+one_due release floor count e (d ∷ (d' ∷ ds)) suit P then' = absurd suit.1

@@ -1,30 +1,29 @@
 -- The code of expressions on the machine.
-use Rattle.std.proofs.Common.{◌≡◌, ℕ, suc, ◌+◌, ◌-◌, ◌<◌, ℤ, List, [], ◌∷◌, ◌++◌, length, refl, sym, ap, ◌∙◌, subst, arith, append_assoc, length-append, Some}
-use Rattle.std.specs.Prelude.{slice_get, nat_le}
+use Rattle.std.proofs.Common.{◌≡◌, ℕ, ◌+◌, ◌<◌, Bool, cond, ℤ, List, [], ◌∷◌, ◌++◌, length, refl, sym, ap, ◌∙◌, subst, arith, append_assoc, length-append, Some}
+use Rattle.std.specs.Prelude.{slice_get}
 use Rattle.std.proofs.Math.Seq.{get_or-append_seam}
 use Rattle.std.proofs.lemmas.Bool.{cond-true, cond-false}
 use Rattle.std.proofs.lemmas.Option.{slice_get-get_or}
 use Rattle.std.proofs.lemmas.List.Sums.{sum_by-append}
+use Rattle.tcel_num.specs.Arithmetic.{holds}
 use Rattle.tcel_num.specs.declared.op.Op.{Op}
 use Rattle.tcel_num.specs.declared.op.Op.TheVariants.{Mul, Div, Rem}
 use Rattle.tcel_core.specs.declared.var.Var.{Var}
-use Rattle.tcel_core.specs.Cells.{place, width}
+use Rattle.tcel_core.specs.Cells.{all_words, place, width}
 use Rattle.tcel_core.specs.Language.{Expr, number, variable, element, unary, binary}
 use Rattle.tcel_core.specs.Meaning.{value}
-use Rattle.tcel_core.proofs.Scope.{HaveOperands}
+use Rattle.tcel_core.proofs.Scope.{HaveOperands, IsSound, value_front}
 use Rattle.tcel_image.specs.declared.costs.Costs.{Costs}
 use Rattle.tcel_image.specs.declared.costs.CostKey.TheVariants as keys
-use Rattle.tcel_image.specs.declared.image.ImageTask.{ImageTask}
 use Rattle.tcel_image.specs.declared.image.Instr.{Instr}
-use Rattle.tcel_image.specs.declared.image.Instr.TheVariants.{Const, Get, GetAt, Arith}
+use Rattle.tcel_image.specs.declared.image.Instr.TheVariants.{Const, Get, GetAt, Arith, Branch}
 use Rattle.tcel_image.specs.declared.image.Line.{Line}
 use Rattle.tcel_image.specs.Costs.{CostsInRange}
 use Rattle.tcel_image.specs.Instructions.{cycles, operator_cycles}
-use Rattle.tcel_image.specs.Machine.{Running, is_last_cycle, effect}
-use Rattle.tcel_image.specs.Spelling.{state_words}
 use Rattle.tcel_tool.specs.Code.{at, expr_code}
-use Rattle.tcel_tool.specs.Costs.{code_cycles}
-use Rattle.tcel_tool.proofs.Ahead.{Due, Ahead, IsAt, quietly, after_cycles, passes}
+use Rattle.tcel_tool.specs.Costs.{code_cycles, expr_cycles}
+use Rattle.tcel_tool.proofs.Steps.{Setting, AheadAt, ahead_at, ready_at, quiet_step}
+use Rattle.tcel_tool.proofs.Ahead.{Due, quietly}
 
 -- the lines stand in the code at this place
 abbrev pub Stands : List Line → ℕ → List Line → Type 0
@@ -51,15 +50,6 @@ stands_all (line ∷ lines) before =
     let rest = stands_all lines (before ++ line ∷ []) in
     let rest' = subst (λ l. Stands l (length (before ++ line ∷ [])) lines) (append_assoc before (line ∷ []) lines) rest in
     (here, subst (λ m. Stands (before ++ line ∷ lines) m lines) n rest')
-
--- a task at the start of an instruction
-abbrev pub ready_at : ℕ → List ℤ → List ℤ → ℕ → List ℕ → Running
-ready_at place stack cells ended taken =
-    record { cells = cells; stack = stack; place = place; spent = 0; ended = ended; taken = taken }
-
--- an instruction ends by its cycles, and not by the time
-abbrev pub EndsByCycles : Costs → ℕ → Instr → Type 0
-EndsByCycles costs period instr = (now : ℕ) (r : Running) → is_last_cycle costs period now instr r ≡ nat_le (cycles costs instr) (r.spent + 1)
 
 pub cycles-append : (costs : Costs) (a b : List Line) → code_cycles costs (a ++ b) ≡ code_cycles costs a + code_cycles costs b
 cycles-append costs a b = sum_by-append (λ (line : Line). cycles costs line.instr) a b
@@ -99,62 +89,40 @@ operator_takes costs ranges Div = (ranges keys.Divide).0
 operator_takes costs ranges Rem = (ranges keys.Divide).0
 operator_takes costs ranges _ = (ranges keys.Arith).0
 
-module _ (costs : Costs) (task : ImageTask) (inputs : List (List ℤ)) (last : Running) (ended : ℕ) (taken : List ℕ) (dues : List Due) where
-  -- the same counts, times and places
-  pub ahead_at : (ran ran' since since' p p' : ℕ) (stack cells : List ℤ) → ran ≡ ran' → since ≡ since' → p ≡ p' →
-      Ahead costs task inputs last ran since (ready_at p stack cells ended taken) dues → Ahead costs task inputs last ran' since' (ready_at p' stack cells ended taken) dues
-  ahead_at ran ran' since since' p p' stack cells e g f ahead =
-      subst (λ n. Ahead costs task inputs last n since' (ready_at p' stack cells ended taken) dues) e
-      (subst (λ n. Ahead costs task inputs last ran n (ready_at p' stack cells ended taken) dues) g
-      (subst (λ n. Ahead costs task inputs last ran since (ready_at n stack cells ended taken) dues) f ahead))
+module _ (s : Setting) (cells : List ℤ) (taken : List ℕ) (dues : List Due) where
+  open s use {costs, ranges, task, vars, frame}
 
-  -- an instruction that shows nothing
-  pub quiet_step : (instr : Instr) (depth : ℕ) → EndsByCycles costs task.period instr → 0 < cycles costs instr →
-      (p p' ran since : ℕ) (stack stack' cells cells' : List ℤ) → slice_get task.code p ≡ Some (record { instr = instr; depth = depth }) →
-      ((spent : ℕ) → effect (state_words task.states) inputs instr (after_cycles spent (ready_at p stack cells ended taken)) ≡ quietly (ready_at p' stack' cells' ended taken)) →
-      Ahead costs task inputs last (ran + cycles costs instr) (since + cycles costs instr) (ready_at p' stack' cells' ended taken) dues →
-      Ahead costs task inputs last ran since (ready_at p stack cells ended taken) dues
-  quiet_step instr depth by some p p' ran since stack stack' cells cells' here does ahead =
-      let r = ready_at p stack cells ended taken in
-      let more : ℕ = cycles costs instr - 1 in
-      let n : cycles costs instr ≡ suc more = omega arith in
-      let is : IsAt costs task instr more r =
-      record { depth = depth; here = here; lasts = λ now spent. by now (after_cycles spent r) ∙ ap (λ k. nat_le k (spent + 1)) n } in
-      passes costs task inputs instr more r is last (ready_at p' stack' cells' ended taken) dues ran since (does more) refl
-      (subst (λ k. Ahead costs task inputs last (ran + k) (since + k) (ready_at p' stack' cells' ended taken) dues) n ahead)
-
-module _ (costs : Costs) (ranges : CostsInRange costs) (task : ImageTask) (inputs : List (List ℤ)) (last : Running) (vars : List Var) (cells : List ℤ) (ended : ℕ) (taken : List ℕ) (dues : List Due) where
   -- an expression's code leaves the value on the stack
   pub expr_runs : (e : Expr) → HaveOperands e → (depth p ran since : ℕ) (stack : List ℤ) → Stands task.code p (expr_code e vars depth) →
-      Ahead costs task inputs last (ran + code_cycles costs (expr_code e vars depth)) (since + code_cycles costs (expr_code e vars depth))
-      (ready_at (p + length (expr_code e vars depth)) (value e vars cells ∷ stack) cells ended taken) dues →
-      Ahead costs task inputs last ran since (ready_at p stack cells ended taken) dues
+      AheadAt s (ran + code_cycles costs (expr_code e vars depth)) (since + code_cycles costs (expr_code e vars depth))
+      (p + length (expr_code e vars depth)) (value e vars cells ∷ stack) cells taken dues →
+      AheadAt s ran since p stack cells taken dues
   expr_runs (number n) ok depth p ran since stack stands ahead =
-      quiet_step costs task inputs last ended taken dues (Const n) depth (λ now r. refl) (ranges keys.Const).0 p (p + 1) ran since stack (n ∷ stack) cells cells stands.0 (λ spent. refl)
-      (ahead_at costs task inputs last ended taken dues _ _ _ _ _ _ (n ∷ stack) cells (omega arith) (omega arith) (omega arith) ahead)
+      quiet_step s taken dues (Const n) depth (λ now r. refl) (ranges keys.Const).0 p (p + 1) ran since stack (n ∷ stack) cells cells stands.0 (λ spent. refl)
+      (ahead_at s taken dues _ _ _ _ _ _ (n ∷ stack) cells (omega arith) (omega arith) (omega arith) ahead)
   expr_runs (variable v) ok depth p ran since stack stands ahead =
       let x = value (variable v) vars cells in
-      quiet_step costs task inputs last ended taken dues (Get (place vars v)) depth (λ now r. refl) (ranges keys.Load).0 p (p + 1) ran since stack (x ∷ stack) cells cells stands.0 (λ spent. refl)
-      (ahead_at costs task inputs last ended taken dues _ _ _ _ _ _ (x ∷ stack) cells (omega arith) (omega arith) (omega arith) ahead)
+      quiet_step s taken dues (Get (place vars v)) depth (λ now r. refl) (ranges keys.Load).0 p (p + 1) ran since stack (x ∷ stack) cells cells stands.0 (λ spent. refl)
+      (ahead_at s taken dues _ _ _ _ _ _ (x ∷ stack) cells (omega arith) (omega arith) (omega arith) ahead)
   expr_runs (element v i) ok depth p ran since stack stands ahead =
       let index = expr_code i vars depth in
       let get = at (depth + 1) (GetAt (place vars v) (width vars v)) in
       let x = value (element v i) vars cells in
       let all = cycles-append costs index get in
       expr_runs i ok depth p ran since stack (stands_front task.code p index get stands)
-      (quiet_step costs task inputs last ended taken dues (GetAt (place vars v) (width vars v)) (depth + 1) (λ now r. refl) (ranges keys.LoadAt).0 (p + length index) (p + length index + 1)
+      (quiet_step s taken dues (GetAt (place vars v) (width vars v)) (depth + 1) (λ now r. refl) (ranges keys.LoadAt).0 (p + length index) (p + length index + 1)
       (ran + code_cycles costs index) (since + code_cycles costs index) (value i vars cells ∷ stack) (x ∷ stack) cells cells (stands_back task.code p index get stands).0 (λ spent. refl)
-      (ahead_at costs task inputs last ended taken dues _ _ _ _ _ _ (x ∷ stack) cells (omega arith) (omega arith) (omega (arith, length-append index get)) ahead))
+      (ahead_at s taken dues _ _ _ _ _ _ (x ∷ stack) cells (omega arith) (omega arith) (omega (arith, length-append index get)) ahead))
   expr_runs (unary op e) ok depth p ran since stack stands ahead =
       let inner = expr_code e vars depth in
       let apply = at (depth + 1) (Arith op) in
       let x = value (unary op e) vars cells in
       let all = cycles-append costs inner apply in
       expr_runs e ok.1 depth p ran since stack (stands_front task.code p inner apply stands)
-      (quiet_step costs task inputs last ended taken dues (Arith op) (depth + 1) (λ now r. refl) (operator_takes costs ranges op) (p + length inner) (p + length inner + 1)
+      (quiet_step s taken dues (Arith op) (depth + 1) (λ now r. refl) (operator_takes costs ranges op) (p + length inner) (p + length inner + 1)
       (ran + code_cycles costs inner) (since + code_cycles costs inner) (value e vars cells ∷ stack) (x ∷ stack) cells cells (stands_back task.code p inner apply stands).0
-      (λ spent. ap (λ s. quietly (ready_at (p + length inner + 1) s cells ended taken)) (cond-true _ _ _ ok.0))
-      (ahead_at costs task inputs last ended taken dues _ _ _ _ _ _ (x ∷ stack) cells (omega arith) (omega arith) (omega (arith, length-append inner apply)) ahead))
+      (λ spent. ap (λ words. quietly (ready_at (p + length inner + 1) words cells frame taken)) (cond-true _ _ _ ok.0))
+      (ahead_at s taken dues _ _ _ _ _ _ (x ∷ stack) cells (omega arith) (omega arith) (omega (arith, length-append inner apply)) ahead))
   expr_runs (binary op a b) ok depth p ran since stack stands ahead =
       let first = expr_code a vars depth in
       let second = expr_code b vars (depth + 1) in
@@ -165,8 +133,39 @@ module _ (costs : Costs) (ranges : CostsInRange costs) (task : ImageTask) (input
       let rest = cycles-append costs second apply in
       expr_runs a ok.1 depth p ran since stack (stands_front task.code p first (second ++ apply) stands)
       (expr_runs b ok.2 (depth + 1) (p + length first) (ran + code_cycles costs first) (since + code_cycles costs first) (value a vars cells ∷ stack) (stands_front task.code (p + length first) second apply behind)
-      (quiet_step costs task inputs last ended taken dues (Arith op) (depth + 2) (λ now r. refl) (operator_takes costs ranges op) (p + length first + length second) (p + length first + length second + 1)
+      (quiet_step s taken dues (Arith op) (depth + 2) (λ now r. refl) (operator_takes costs ranges op) (p + length first + length second) (p + length first + length second + 1)
       (ran + code_cycles costs first + code_cycles costs second) (since + code_cycles costs first + code_cycles costs second)
       (value b vars cells ∷ value a vars cells ∷ stack) (x ∷ stack) cells cells (stands_back task.code (p + length first) second apply behind).0
-      (λ spent. ap (λ s. quietly (ready_at (p + length first + length second + 1) s cells ended taken)) (cond-false _ _ _ ok.0))
-      (ahead_at costs task inputs last ended taken dues _ _ _ _ _ _ (x ∷ stack) cells (omega arith) (omega arith) (omega (arith, length-append first (second ++ apply), length-append second apply)) ahead)))
+      (λ spent. ap (λ words. quietly (ready_at (p + length first + length second + 1) words cells frame taken)) (cond-false _ _ _ ok.0))
+      (ahead_at s taken dues _ _ _ _ _ _ (x ∷ stack) cells (omega arith) (omega arith) (omega (arith, length-append first (second ++ apply), length-append second apply)) ahead)))
+
+module _ (s : Setting) where
+  open s use {costs, ranges, task, vars, frame, stack}
+
+  -- a sound expression's code, with other words behind those of the variables
+  pub value_runs : (e : Expr) → IsSound vars e → (depth p ran since : ℕ) (stack cells others : List ℤ) (taken : List ℕ) (dues : List Due) → length cells ≡ all_words vars → Stands task.code p (expr_code e vars depth) →
+      AheadAt s (ran + expr_cycles costs vars e) (since + expr_cycles costs vars e) (p + length (expr_code e vars depth)) (value e vars cells ∷ stack) (cells ++ others) taken dues →
+      AheadAt s ran since p stack (cells ++ others) taken dues
+  value_runs e sound depth p ran since stack cells others taken dues long stands ahead =
+      let same = value_front e vars cells others sound.scope long in
+      let all = cycles-depth e costs vars depth 0 in
+      let there = p + length (expr_code e vars depth) in
+      expr_runs s (cells ++ others) taken dues e sound.operands depth p ran since stack stands
+      (subst (λ x. AheadAt s (ran + code_cycles costs (expr_code e vars depth)) (since + code_cycles costs (expr_code e vars depth)) there (x ∷ stack) (cells ++ others) taken dues) (sym same)
+      (ahead_at s taken dues _ _ _ _ there there (value e vars cells ∷ stack) (cells ++ others) (omega arith) (omega arith) refl ahead))
+
+  -- a test, which goes on behind it where it holds, and else at the target
+  pub test_runs : (test : Expr) → IsSound vars test → (p target ran since : ℕ) (cells others : List ℤ) (taken : List ℕ) (dues : List Due) → length cells ≡ all_words vars →
+      Stands task.code p (expr_code test vars 0 ++ at 1 (Branch target)) → (b : Bool) → holds (value test vars cells) ≡ b →
+      AheadAt s (ran + (expr_cycles costs vars test + costs.branch)) (since + (expr_cycles costs vars test + costs.branch))
+      (cond b (p + length (expr_code test vars 0) + 1) target) stack (cells ++ others) taken dues →
+      AheadAt s ran since p stack (cells ++ others) taken dues
+  test_runs test sound p target ran since cells others taken dues long stands b is ahead =
+      let before = expr_code test vars 0 in
+      let on = p + length before + 1 in
+      value_runs test sound 0 p ran since stack cells others taken dues long (stands_front task.code p before (at 1 (Branch target)) stands)
+      (quiet_step s taken dues (Branch target) 1 (λ now r. refl) (ranges keys.Branch).0 (p + length before) (cond b on target)
+      (ran + expr_cycles costs vars test) (since + expr_cycles costs vars test) (value test vars cells ∷ stack) stack (cells ++ others) (cells ++ others)
+      (stands_back task.code p before (at 1 (Branch target)) stands).0
+      (λ spent. ap (λ c. quietly (ready_at (cond c on target) stack (cells ++ others) frame taken)) is)
+      (ahead_at s taken dues _ _ _ _ (cond b on target) (cond b on target) stack (cells ++ others) (omega arith) (omega arith) refl ahead))

@@ -1,9 +1,17 @@
 pub mod WorkedExamples
 pub mod Ahead
+pub mod Steps
 pub mod ExprRuns
 pub mod Inputs
 pub mod Dues
 pub mod WalksGoOn
+pub mod Runs
+pub mod ActRuns
+pub mod ChoiceRuns
+pub mod TimedRuns
+pub mod LoopRuns
+pub mod ForRuns
+pub mod WhileRuns
 pub mod BodyRuns
 pub mod StateWords
 pub mod Progress

@@ -32,9 +32,11 @@ use Rattle.tcel_tool.proofs.Ahead.{Due, Ahead, IsAt, makes_last, showing, after_
 use Rattle.tcel_core.proofs.Bodies.{Fits, block_words, block_remains, ArePlain}
 use Rattle.tcel_tool.proofs.Dues.{AllSuit}
 use Rattle.tcel_tool.proofs.WalksGoOn.{AreUpTo}
-use Rattle.tcel_tool.proofs.BodyRuns.{Runs, show_step, block_runs}
+use Rattle.tcel_tool.proofs.Steps.{Setting, ready_at, show_step}
+use Rattle.tcel_tool.proofs.Runs.{Runs}
+use Rattle.tcel_tool.proofs.BodyRuns.{block_runs}
 use Rattle.tcel_core.proofs.Remain.{Remain, takes}
-use Rattle.tcel_tool.proofs.ExprRuns.{Stands, stands_front, stands_back, stands_all, ready_at}
+use Rattle.tcel_tool.proofs.ExprRuns.{Stands, stands_front, stands_back, stands_all}
 use Rattle.tcel_tool.proofs.Progress.{Frames, IsDue, promise_of}
 use Rattle.tcel_tool.proofs.StateWords.{states_first, states_words}
 use Rattle.tcel_core.proofs.StateWords.{length-declared_state, length-start_cells, length-state_of, states_within}
@@ -150,11 +152,15 @@ module _ (costs : Costs) (ranges : CostsInRange costs) (t : Task) (fits : Fits t
   stands : Stands task.code 0 (body_code ++ last_code)
   stands = stands_all (body_code ++ last_code) []
 
+  -- with what a frame runs
+  abbrev setting : ℕ → Setting
+  setting f = record { costs = costs; ranges = ranges; task = task; inputs = streams; last = start (suc f); vars = t.vars; frame = f; stack = [] }
+
   -- a frame's body on the machine
-  runs : (f : ℕ) → Runs costs ranges task streams (start (suc f)) t.vars f [] (Walks t.body t.vars costs) body_code (does f) 0 0 0 0 (from f).cells counters (taken f)
+  runs : (f : ℕ) → Runs (setting f) (Walks t.body t.vars costs) body_code (does f) 0 0 0 0 (from f).cells counters (taken f)
   runs f =
-      block_runs costs ranges task streams (start (suc f)) t.vars f [] t.body fits (from f) 0 0 0 0 (all_words t.vars) counters (taken f) (words f) (omega arith)
-      (let long = length-replicate (loops t.body) (pos 0) in omega arith) (remain f)
+      let many = length-replicate (loops t.body) (pos 0) in
+      block_runs (setting f) t.body fits (from f) 0 0 0 0 (all_words t.vars) counters (taken f) (record { words = words f; room = omega arith; remain = remain f }) (omega arith)
       (stands_front task.code 0 body_code last_code stands)
 
   abbrev mark_due : ℕ → Due
@@ -212,7 +218,7 @@ module _ (costs : Costs) (ranges : CostsInRange costs) (t : Task) (fits : Fits t
       let is : IsAt costs task End more r = record { depth = 0; here = behind.1.0; lasts = λ now spent. ap (λ k. nat_le k (spent + 1)) n } in
       (runs f).ahead (event_dues f) (mark_due f ∷ end_due f ∷ []) (dues_suit f (f * t.period) t.deadline (runs f).counts (does f).events (runs f).each)
       (λ ran since h waited low.
-      show_step costs ranges task streams (start (suc f)) t.vars f [] Mark 0 (λ now r. refl) (ranges keys.Mark).0 p (p + 1) ran since [] [] cells cells (taken (suc f)) (taken (suc f))
+      show_step (setting f) Mark 0 (λ now r. refl) (ranges keys.Mark).0 p (p + 1) ran since [] [] cells cells (taken (suc f)) (taken (suc f))
       (mark_due f) (end_due f ∷ []) behind.0 (λ spent. refl) (omega arith) (omega arith)
       (makes_last costs task streams End more r is (start (suc f)) (end_due f) (ran + costs.mark) (since + costs.mark) (frame_ends f (p + 1) more) (omega arith) (omega arith)))
       0 (f * t.period) (omega arith) (omega arith) (omega arith)
