@@ -1,6 +1,6 @@
 -- Images that `compile` wrote, as `run` reads them.
-use Rattle.std.proofs.Common.{◌≡◌, ℕ, ℤ, List, [], ◌∷◌, length, map, refl, sym, ap, ◌∙◌, subst, Option, Some, None}
-use Rattle.std.specs.Prelude.{Result, Ok, Err, unwrap_or}
+use Rattle.std.proofs.Common.{◌≡◌, ℕ, ℤ, List, [], ◌∷◌, map, sym, subst, Option, Some, None}
+use Rattle.std.specs.Prelude.{Ok, unwrap_or}
 use Rattle.std.proofs.lemmas.List.{length-map}
 use Rattle.tcel_num.specs.declared.port_row.PortRow.{PortRow}
 use Rattle.tcel_core.specs.Meets.{Meets}
@@ -9,7 +9,7 @@ use Rattle.tcel_image.specs.declared.image.Image.{Image}
 use Rattle.tcel_image.specs.Machine.{Streams, trace}
 use Rattle.tcel_image.proofs.Whole.{told_apart}
 use Rattle.tcel_script.specs.Lines.{Line, script_lines}
-use Rattle.tcel_script.specs.Script.{fault_at, first_fault, script_of, stream_in, streams_of, unless_fault}
+use Rattle.tcel_script.specs.Script.{script_of, stream_in, unless_fault}
 use Rattle.tcel_script.specs.declared.fail.ScriptFail.{ScriptFail}
 use Rattle.tcel_verify.specs.Ports.{port_row, port_rows}
 use Rattle.tcel_tool.specs.Headline.{KeepsItsPromise}
