@@ -4,6 +4,7 @@ pub mod ExprRuns
 pub mod Inputs
 pub mod Dues
 pub mod WalksGoOn
+pub mod FitCode
 pub mod BodyRuns
 pub mod StateWords
 pub mod Progress
@@ -13,10 +14,12 @@ pub mod SetRuns
 pub mod SetMeets
 pub mod WholeSets
 pub mod PlainMeets
+pub mod ValidImages
 pub mod Options
 pub mod Places
 pub mod Straight
 pub mod ImagesInRange
+pub mod PlainValid
 pub mod CommandWords
 pub mod Refusals
 pub mod StraightPlans
