@@ -9,3 +9,5 @@ pub mod Readers
 pub mod Texts
 pub mod Whole
 pub mod Traces
+pub mod FitLines
+pub mod Names

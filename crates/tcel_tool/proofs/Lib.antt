@@ -12,6 +12,7 @@ pub mod TimedRuns
 pub mod LoopRuns
 pub mod ForRuns
 pub mod WhileRuns
+pub mod FitCode
 pub mod BodyRuns
 pub mod StateWords
 pub mod Progress
@@ -21,10 +22,12 @@ pub mod SetRuns
 pub mod SetMeets
 pub mod WholeSets
 pub mod PlainMeets
+pub mod ValidImages
 pub mod Options
 pub mod Places
 pub mod Straight
 pub mod ImagesInRange
+pub mod PlainValid
 pub mod CommandWords
 pub mod Refusals
 pub mod StraightPlans

@@ -12,6 +12,7 @@ use Rattle.tcel_tool.specs.Headline.{KeepsItsPromise}
 use Rattle.tcel_image.specs.Costs.{CostsInRange}
 use Rattle.tcel_tool.proofs.ImagesInRange.{image_in_range}
 use Rattle.tcel_tool.proofs.PlainMeets.{plain_programs_meet}
+use Rattle.tcel_tool.proofs.PlainValid.{plain_image_valid}
 
 -- the plan of the only task
 pub record IsOnlyPlan (task : Task) (costs : Costs) (plans : List Plan) : Type 0 where
@@ -34,6 +35,7 @@ promise tree costs plans hyper plain writable range whole period fits =
     let few : demand (plan ∷ []) hyper ≤ hyper = subst (λ (ps : List Plan). demand ps hyper ≤ hyper) only.alone fits in
     record {
       spelled = image_in_range tree costs plain writable range;
+      valid = plain_image_valid tree costs plain;
       plan = plan;
       whole = only.whole;
       runs = plain_programs_meet tree costs plan plain range only.whole (omega arith);

@@ -102,7 +102,7 @@ act_fits decls (stmts.Assign name e) plain = (declared_within decls name plain.0
 act_fits decls (stmts.Receive name port) plain = declared_within decls name plain.0
 act_fits decls (stmts.Send e port) plain = expr_sound decls e plain.0
 
-block_fits : (id : ℕ) (decls : List PlainDecl) (body : List PlainStmt) → AllByRecursion (StmtIsPlain decls) body → Fits (block_from id decls body) (vars_of decls)
+pub block_fits : (id : ℕ) (decls : List PlainDecl) (body : List PlainStmt) → AllByRecursion (StmtIsPlain decls) body → Fits (block_from id decls body) (vars_of decls)
 block_fits id decls [] plain = tt
 block_fits id decls (s ∷ ss) plain = (act_fits decls s plain.0, block_fits (id + 1) decls ss plain.1)
 

@@ -7,7 +7,7 @@ use Rattle.tcel_core.specs.Meets.{Meets}
 use Rattle.tcel_image.specs.declared.costs.Costs.{Costs}
 use Rattle.tcel_image.specs.declared.image.Image.{Image}
 use Rattle.tcel_image.specs.Machine.{Streams, trace}
-use Rattle.tcel_image.proofs.Whole.{told_apart}
+use Rattle.tcel_image.proofs.Whole.{told_apart, reading_again}
 use Rattle.tcel_script.specs.Lines.{Line, script_lines}
 use Rattle.tcel_script.specs.Script.{script_of, stream_in, unless_fault}
 use Rattle.tcel_script.specs.declared.fail.ScriptFail.{ScriptFail}
@@ -15,8 +15,8 @@ use Rattle.tcel_verify.specs.Ports.{port_row, port_rows}
 use Rattle.tcel_tool.specs.Headline.{KeepsItsPromise}
 use Rattle.tcel_tool.specs.Layout.{image_of, image_task}
 use Rattle.tcel_tool.specs.PlainTree.{set_of, task_of}
-use Rattle.tcel_tool.specs.RunAnswer.{Runs}
-use Rattle.tcel_tool.specs.WrittenImages.{written, RunsOfWrittenImagesMeet}
+use Rattle.tcel_tool.specs.RunAnswer.{Spells}
+use Rattle.tcel_tool.specs.WrittenImages.{written, RunsOfWrittenImagesMeet, WrittenImagesAreTaken}
 use Rattle.tcel_tool.specs.declared.plain_tree.PlainTree.{PlainTree}
 
 -- streams are given without a fault
@@ -32,16 +32,14 @@ row_streams row lines = map (λ input. unwrap_or (stream_in lines row.task input
 one_row : (row : PortRow) (script : List ℕ) (streams : Streams) → script_of (row ∷ []) script ≡ Ok streams → row_streams row (script_lines script) ∷ [] ≡ streams
 one_row row script streams e = given_streams _ (row_streams row (script_lines script) ∷ []) streams e
 
--- the image that is read is the one that was written
-pub same_image : (tree : PlainTree) (costs : Costs) (kept : KeepsItsPromise tree costs) (script : Option (List ℕ)) (given : Image) (streams : Streams) →
-    Runs (Some (written tree costs)) script given streams → image_of (set_of tree) costs ≡ given
-same_image tree costs kept script given streams runs =
-    let spells = runs.image_in.spells in told_apart (image_of (set_of tree) costs) given kept.spelled spells.range spells.spelled
+-- the image that written bytes spell is the one that was written
+same_image : (tree : PlainTree) (costs : Costs) (kept : KeepsItsPromise tree costs) (given : Image) → Spells (Some (written tree costs)) given → image_of (set_of tree) costs ≡ given
+same_image tree costs kept given spells = told_apart (image_of (set_of tree) costs) given kept.spelled spells.range spells.spelled
 
 pub runs_meet : RunsOfWrittenImagesMeet
 runs_meet = λ tree costs kept script given streams ticks runs.
     let image = image_of (set_of tree) costs in
-    let is = same_image tree costs kept (Some script) given streams runs in
+    let is = same_image tree costs kept given runs.image_in.spells in
     let row = port_row (image_task (task_of tree)) in
     let its = row_streams row (script_lines script) in
     let read = subst (λ (i : Image). script_of (port_rows i) script ≡ Ok streams) (sym is) runs.streams_in in
@@ -49,3 +47,6 @@ runs_meet = λ tree costs kept script given streams ticks runs.
     let meets = kept.runs its ticks (length-map (task_of tree).inputs (λ (input : List ℕ). unwrap_or (stream_in (script_lines script) row.task input) [])) in
     subst (λ (s : Streams). Meets (set_of tree) (kept.plan ∷ []) s ticks (trace given s ticks)) alone
     (subst (λ (i : Image). Meets (set_of tree) (kept.plan ∷ []) (its ∷ []) ticks (trace i (its ∷ []) ticks)) is meets)
+
+pub are_taken : WrittenImagesAreTaken
+are_taken = λ tree costs kept. (reading_again (image_of (set_of tree) costs) kept.spelled, kept.valid)

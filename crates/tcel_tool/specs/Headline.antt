@@ -6,6 +6,7 @@ use Rattle.tcel_image.specs.declared.costs.Costs.{Costs}
 use Rattle.tcel_image.specs.Costs.{CostsInRange}
 use Rattle.tcel_image.specs.Machine.{trace}
 use Rattle.tcel_image.specs.Spelling.{InRange}
+use Rattle.tcel_image.specs.Validity.{IsValid}
 use Rattle.tcel_tool.specs.Layout.{image_of}
 use Rattle.tcel_tool.specs.PlainTree.{IsPlain, task_of, set_of}
 use Rattle.tcel_tool.specs.WholePlan.{IsWholePlan}
@@ -23,9 +24,10 @@ CompiledProgramsMeetTheirSource =
     (tree : PlainTree) (costs : Costs) (plan : Plan) → IsPlain tree → CostsInRange costs → IsWholePlan (task_of tree) costs plan →
     plan.total ≤ plan.period → RunsMeet tree costs plan
 
--- a program's image keeps its promise: it has a spelling, and by the whole plan of the program's task, every run meets the program
+-- a program's image keeps its promise: it has a spelling and is valid, and by the whole plan of the program's task, every run meets the program
 pub record KeepsItsPromise (tree : PlainTree) (costs : Costs) : Type 0 where
   pub spelled : InRange (image_of (set_of tree) costs)
+  pub valid : IsValid (image_of (set_of tree) costs)
   pub plan : Plan
   pub whole : IsWholePlan (task_of tree) costs plan
   pub runs : RunsMeet tree costs plan

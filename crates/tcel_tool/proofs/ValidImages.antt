@@ -1,0 +1,51 @@
+-- The image of tasks that are not sliced is valid, where their bodies fit and their names differ.
+use Rattle.std.proofs.Common.{◌≡◌, ◌+◌, false, List, [], ◌∷◌, ◌++◌, length, map, refl, ap, ◌∙◌, arith}
+use Rattle.std.specs.List.{AllByRecursion}
+use Rattle.std.specs.Int.{IsInRange}
+use Rattle.tcel_core.specs.Cells.{all_words}
+use Rattle.tcel_core.specs.Language.{Task}
+use Rattle.tcel_core.proofs.Bodies.{Fits}
+use Rattle.tcel_image.specs.declared.costs.Costs.{Costs}
+use Rattle.tcel_image.specs.declared.image.Instr.TheVariants.{Mark, End}
+use Rattle.tcel_image.specs.Validity.{IsValid, has_twice, own_names}
+use Rattle.tcel_image.proofs.FitLines.{Leads, IsFit, IsFitTask, fit-append, name_of, valid_image}
+use Rattle.tcel_tool.specs.Code.{at, block_code}
+use Rattle.tcel_tool.specs.Layout.{image_of, image_task}
+use Rattle.tcel_tool.proofs.ExprRuns.{Stands, stands_all, stands_back, stands_front}
+use Rattle.tcel_tool.proofs.FitCode.{IsWithin, block_code_fits, line_fits}
+
+-- what a checked task has, so that its image is valid
+pub record IsCompilable (task : Task) : Type 0 where
+  pub fits : Fits task.body task.vars
+  pub within : IsWithin task.body (length task.inputs) (length task.outputs)
+  pub period : IsInRange 1 1000000000 task.period
+  pub names : has_twice (own_names (image_task task)) ≡ false
+
+-- the lines of the whole code
+task_fits : (task : Task) → IsCompilable task → IsFitTask (image_task task)
+task_fits task h =
+    let image = image_task task in
+    let code = image.code in
+    let body = block_code task.body task.vars 0 (all_words task.vars) in
+    let ends = at 0 Mark ++ at 0 End in
+    let stands : Stands code 0 code = stands_all code [] in
+    let last = stands_back code 0 body ends stands in
+    let mark : Leads code 0 (0 + length body) = record { line = record { instr = Mark; depth = 0 }; there = last.0; deep = refl } in
+    let end : Leads code 0 (0 + length body + 1) = record { line = record { instr = End; depth = 0 }; there = last.1.0; deep = refl } in
+    let held = (block_code_fits image task.vars (omega arith) task.body h.fits h.within 0 (all_words task.vars) (omega arith)).fit (stands_front code 0 body ends stands) mark in
+    let marked = (line_fits image (0 + length body) 0 0 Mark (omega arith) (omega arith) (omega arith) tt tt refl (λ next. (next, tt))).fit (last.0, tt) end in
+    let ended : IsFit image (0 + length body + 1) (record { instr = End; depth = 0 }) =
+    record { nexts = tt; cells = tt; port = tt; enough = omega arith; low = omega arith; empty = λ e. refl } in
+    record { period = h.period; names = h.names; first = held.0; lines = fit-append image 0 body ends held.1 (marked.1.0, (ended, tt)) }
+
+all_fit : (set : List Task) → AllByRecursion IsCompilable set → AllByRecursion IsFitTask (map image_task set)
+all_fit [] h = tt
+all_fit (task ∷ set) h = (task_fits task h.0, all_fit set h.1)
+
+names_kept : (set : List Task) → map name_of (map image_task set) ≡ map (λ (task : Task). task.name) set
+names_kept [] = refl
+names_kept (task ∷ set) = ap (λ names. task.name ∷ names) (names_kept set)
+
+-- the image of checked tasks, whose names differ, is valid
+pub valid_set : (set : List Task) (costs : Costs) → has_twice (map (λ (task : Task). task.name) set) ≡ false → AllByRecursion IsCompilable set → IsValid (image_of set costs)
+valid_set set costs names h = valid_image (image_of set costs) (ap has_twice (names_kept set) ∙ names) (all_fit set h)
