@@ -4,7 +4,10 @@ pub mod ExprRuns
 pub mod Inputs
 pub mod Dues
 pub mod WalksGoOn
+pub mod SteadyWalks
+pub mod RunWalks
 pub mod BodyRuns
+pub mod BoundEvents
 pub mod StateWords
 pub mod Progress
 pub mod TaskMeets
