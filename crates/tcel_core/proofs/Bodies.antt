@@ -223,7 +223,7 @@ mutual
       (λ _. block_plain held vars h.1 plain.0 m) (λ _. block_plain other vars h.2 plain.1 m)
   stmt_plain (timed id window body) vars h plain m = absurd plain
 
-  act_plain : (act : Act) (vars : List Var) → ActFits act vars → ActIsUntimed act → (m : Memory) → ArePlain (exec_act act vars m).events
+  pub act_plain : (act : Act) (vars : List Var) → ActFits act vars → ActIsUntimed act → (m : Memory) → ArePlain (exec_act act vars m).events
   act_plain (assign v e) vars h plain m = tt
   act_plain (assign_at v i e) vars h plain m = tt
   act_plain (receive v port) vars h plain m = (refl, tt)

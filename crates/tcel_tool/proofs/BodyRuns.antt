@@ -28,7 +28,8 @@ use Rattle.tcel_image.specs.Spelling.{state_words}
 use Rattle.tcel_tool.specs.Code.{at, expr_code, block_code, stmt_code, act_code, hold_of, hold_code, branches_code, held_length}
 use Rattle.tcel_core.specs.Contents.{act_loops, stmt_loops, loops, has_statement, has_event}
 use Rattle.tcel_tool.specs.Costs.{code_cycles, expr_cycles}
-use Rattle.tcel_tool.specs.Walks.{Counts, WhileWalks, Walks, StmtWalks, ActWalks, Then, Either, Rounds, RoundsUpTo, Passes, held_entry}
+use Rattle.tcel_tool.specs.Walks.{Counts, WhileWalks, Walks, ActWalks, Then, Either, Rounds, RoundsUpTo, Passes, held_entry}
+use Rattle.tcel_tool.proofs.RunWalks.{Given, RunWalks, StmtRunWalks, run_walk}
 use Rattle.tcel_tool.proofs.Ahead.{Due, Ahead, IsAt, quietly, showing, after_cycles, makes, holds_on}
 use Rattle.tcel_tool.proofs.ExprRuns.{Stands, stands_front, stands_back, ready_at, EndsByCycles, cycles-depth, ahead_at, quiet_step, expr_runs}
 use Rattle.tcel_core.proofs.Remain.{Remain, take_one, takes, takes-append}
@@ -687,11 +688,17 @@ module _ (costs : Costs) (ranges : CostsInRange costs) (task : ImageTask) (input
       let turned = subst (λ q. Goes Walk (rounds_while n (λ k. holds (value test vars k.cells)) (exec body vars) m) low q fin (entry + (costs.const_ + costs.store)) floor m.cells (set others low (pos 0)) taken) start_at rest in
       then_goes (Passes (costs.const_ + costs.store)) Walk (quiet m) (rounds_while n (λ k. holds (value test vars k.cells)) (exec body vars)) low low p (p + 2) fin entry floor m.cells others taken (omega arith) first turned
 
+  -- a run's own walk is a walk
+  along_a_walk : (b : Block) (m : Memory) (code : List Line) (low p entry floor : ℕ) (others : List ℤ) (taken : List ℕ) → Runs (RunWalks b vars costs m) code (exec b vars m) low p entry floor m.cells others taken →
+      Runs (Walks b vars costs) code (exec b vars m) low p entry floor m.cells others taken
+  along_a_walk b m code low p entry floor others taken r =
+      goes_by (RunWalks b vars costs m) (Walks b vars costs) (exec b vars m) low p (p + length code) entry floor m.cells others taken (run_walk b vars costs m) r
+
   mutual
-    -- statements, one after another
+    -- statements, one after another, along the run's own walk
     pub block_runs : (b : Block) → Fits b vars → (m : Memory) (low p entry floor counter : ℕ) (others : List ℤ) (taken : List ℕ) → length m.cells ≡ all_words vars →
         counter ≡ all_words vars + low → low + loops b ≤ length others → Remain inputs m.inputs taken → Stands task.code p (block_code b vars p counter) →
-        Runs (Walks b vars costs) (block_code b vars p counter) (exec b vars m) low p entry floor m.cells others taken
+        Runs (RunWalks b vars costs m) (block_code b vars p counter) (exec b vars m) low p entry floor m.cells others taken
     block_runs done fits m low p entry floor counter others taken long at_low room remain stands = nothing_runs m low p entry floor others taken
     block_runs (next s rest) fits m low p entry floor counter others taken long at_low room remain stands =
         let code = stmt_code s vars p counter in
@@ -699,14 +706,16 @@ module _ (costs : Costs) (ranges : CostsInRange costs) (task : ImageTask) (input
         let one = stmt_runs s fits.0 m low p entry floor counter others taken long at_low (omega arith) remain (stands_front task.code p code behind stands) in
         let o = exec_stmt s vars m in
         let many = one.as_many in
-        then_runs (StmtWalks s vars costs) (Walks rest vars costs) code behind o (exec rest vars) (low + stmt_loops s) low p entry floor m.cells others taken (omega arith) one
+        then_runs (StmtRunWalks s vars costs m) (RunWalks rest vars costs o.memory) code behind o (exec rest vars) (low + stmt_loops s) low p entry floor m.cells others taken (omega arith) one
         (block_runs rest fits.1 o.memory (low + stmt_loops s) (p + length code) one.end floor (counter + stmt_loops s) one.left (takes o.events taken) (stmt_words s vars fits.0 m long) (omega arith) (omega arith)
         (stmt_remains s vars fits.0 inputs m taken remain) (stands_back task.code p code behind stands))
 
     pub stmt_runs : (s : Stmt) → StmtFits s vars → (m : Memory) (low p entry floor counter : ℕ) (others : List ℤ) (taken : List ℕ) → length m.cells ≡ all_words vars →
         counter ≡ all_words vars + low → low + stmt_loops s ≤ length others → Remain inputs m.inputs taken → Stands task.code p (stmt_code s vars p counter) →
-        Runs (StmtWalks s vars costs) (stmt_code s vars p counter) (exec_stmt s vars m) low p entry floor m.cells others taken
-    stmt_runs (item id act) fits m low p entry floor counter others taken long at_low room remain stands = act_runs act fits m low p entry floor counter others taken long at_low room remain stands
+        Runs (StmtRunWalks s vars costs m) (stmt_code s vars p counter) (exec_stmt s vars m) low p entry floor m.cells others taken
+    stmt_runs (item id act) fits m low p entry floor counter others taken long at_low room remain stands =
+        let r = act_runs act fits m low p entry floor counter others taken long at_low room remain stands in
+        record { end = r.end; counts = r.counts; left = r.left; walk = (r.walk, r.each); each = r.each; as_many = r.as_many; kept = r.kept; ahead = r.ahead }
     stmt_runs (choice id test held other) fits m low p entry floor counter others taken long at_low room remain stands =
         let test_code = expr_code test vars 0 in
         let yes_from = p + length test_code + 1 in
@@ -715,24 +724,27 @@ module _ (costs : Costs) (ranges : CostsInRange costs) (task : ImageTask) (input
         let no_from = yes_from + held_length has (length yes_code) in
         let no_code = block_code other vars no_from (counter + loops held) in
         let inner = entry + (expr_cycles costs vars test + costs.branch) in
-        let walks_yes = Walks held vars costs in
-        let walks_no = Walks other vars costs in
+        let holds_now = holds (value test vars m.cells) in
+        let walks_yes = Given (holds_now ≡ true) (RunWalks held vars costs m) in
+        let walks_no = Given (holds_now ≡ false) (RunWalks other vars costs m) in
         let behind = branches_stand test fits.0 low p entry floor m.cells others taken long yes_code no_code walks_yes walks_no (exec held vars m) has stands in
         cond_both (holds (value test vars m.cells)) (exec held vars) (exec other vars)
-        (λ f. Runs (StmtWalks (choice id test held other) vars costs) (stmt_code (choice id test held other) vars p counter) (f m) low p entry floor m.cells others taken)
+        (λ f. Runs (StmtRunWalks (choice id test held other) vars costs m) (stmt_code (choice id test held other) vars p counter) (f m) low p entry floor m.cells others taken)
         (λ is.
         choice_held test fits.0 low p entry floor m.cells others taken long yes_code no_code walks_yes walks_no (exec held vars m) has stands is
-        (block_runs held fits.1 m low yes_from inner floor counter others taken long at_low (omega arith) remain (yes_stands task.code has yes_from yes_code no_code behind)))
+        (goes_by (RunWalks held vars costs m) walks_yes (exec held vars m) low yes_from (yes_from + length yes_code) inner floor m.cells others taken (λ from to es w. (is, w))
+        (block_runs held fits.1 m low yes_from inner floor counter others taken long at_low (omega arith) remain (yes_stands task.code has yes_from yes_code no_code behind))))
         (λ is.
         choice_other test fits.0 low p entry floor m.cells others taken long yes_code no_code walks_yes walks_no (exec other vars m) has (no_statement other no_from (counter + loops held)) stands is
         (goes_lower walks_no (exec other vars m) low (low + loops held) no_from (no_from + length no_code) inner floor m.cells others taken (omega arith)
+        (goes_by (RunWalks other vars costs m) walks_no (exec other vars m) (low + loops held) no_from (no_from + length no_code) inner floor m.cells others taken (λ from to es w. (is, w))
         (block_runs other fits.2 m (low + loops held) no_from inner floor (counter + loops held) others taken long (omega arith) (omega arith) remain
-        (no_stands task.code has yes_from yes_code no_code (no_statement other no_from (counter + loops held)) behind))))
+        (no_stands task.code has yes_from yes_code no_code (no_statement other no_from (counter + loops held)) behind)))))
     stmt_runs (timed id window body) fits m low p entry floor counter others taken long at_low room remain stands =
         let hold = hold_of window body in
         let at_body = p + length (hold_code hold) in
         let code = block_code body vars at_body counter in
-        timed_runs id window low p entry floor m.cells others taken code (Walks body vars costs) (exec body vars m) hold (of_window window body fits m) stands
+        timed_runs id window low p entry floor m.cells others taken code (RunWalks body vars costs m) (exec body vars m) hold (of_window window body fits m) stands
         (block_runs body fits m low at_body (held_entry hold entry) (max floor (release + unwrap_or hold 0)) counter others taken long at_low room remain (stands_back task.code p (hold_code hold) code stands))
 
     act_runs : (act : Act) → ActFits act vars → (m : Memory) (low p entry floor counter : ℕ) (others : List ℤ) (taken : List ℕ) → length m.cells ≡ all_words vars →
@@ -864,7 +876,9 @@ module _ (costs : Costs) (ranges : CostsInRange costs) (task : ImageTask) (input
         let begun = get_or-set_same others low (pos 0) (pos 0) (omega arith) in
         let long_others = length-set others low (pos 0) in
         let turns = for_turns v n fits.0 fits.1 body fits.2 low p floor counter at_low code m (entry + (costs.const_ + costs.store)) (set others low (pos 0)) taken long (omega arith) begun remain
-        (λ m' entry' others' taken' long' room' remain'. block_runs body fits.2 m' (suc low) (p + 4) entry' floor (counter + 1) others' taken' long' next_low room' remain' (stands_front task.code (p + 4) code line body_stands))
+        (λ m' entry' others' taken' long' room' remain'.
+        along_a_walk body m' code (suc low) (p + 4) entry' floor others' taken'
+        (block_runs body fits.2 m' (suc low) (p + 4) entry' floor (counter + 1) others' taken' long' next_low room' remain' (stands_front task.code (p + 4) code line body_stands)))
         get put (stands_back task.code (p + 4) code line body_stands).0 n (omega arith) in
         let round = for_round v n fits.0 fits.1 body fits.2 low p floor counter at_low code in
         let end_at : cond (nat_lt n n) (p + 2) (p + 4 + length code + 1) ≡ p + length (act_code (for_loop v n body) vars p counter) =
@@ -886,7 +900,9 @@ module _ (costs : Costs) (ranges : CostsInRange costs) (task : ImageTask) (input
         let end_at : from + length code + 1 ≡ p + length (act_code (while_loop test n body) vars p counter) = omega (arith, length-append before (branch ++ (code ++ line)), length-append code line) in
         subst (λ q. Goes (ActWalks (while_loop test n body) vars costs) (exec_act (while_loop test n body) vars m) low p q entry floor m.cells others taken) end_at
         (while_runs test fits.0 n fits.1 body fits.2 m low p entry floor counter others taken long at_low room remain code
-        (λ m' entry' others' taken' long' room' remain'. block_runs body fits.2 m' (suc low) from entry' floor (counter + 1) others' taken' long' next_low room' remain' (stands_front task.code from code line body_stands))
+        (λ m' entry' others' taken' long' room' remain'.
+        along_a_walk body m' code (suc low) from entry' floor others' taken'
+        (block_runs body fits.2 m' (suc low) from entry' floor (counter + 1) others' taken' long' next_low room' remain' (stands_front task.code from code line body_stands)))
         tested (stands_back task.code from code line body_stands).0 stands.0 stands.1.0)
     act_runs (copy a b) fits m low p entry floor counter others taken long at_low room remain stands =
         let cells = copy_words vars m.cells a b in

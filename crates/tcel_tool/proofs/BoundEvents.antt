@@ -1,21 +1,19 @@
 -- The points of a task's plan bind the events of each run of its body: what is so of each point's prefix and bound is so of each event's count and the bounds of the blocks around it.
-use Rattle.std.proofs.Common.{◌≡◌, ℕ, zero, suc, ◌+◌, ◌≤◌, Bool, true, false, List, [], ◌∷◌, ◌++◌, length, refl, sym, ap, ◌∙◌, subst, arith, Option, Some, None, inl, inr}
+use Rattle.std.proofs.Common.{◌≡◌, ℕ, ◌+◌, ◌≤◌, true, false, List, [], ◌∷◌, ◌++◌, length, refl, sym, ap, ◌∙◌, subst, arith, Option, Some, None, inl, inr}
 use Rattle.std.specs.Prelude.{IfSome, MatchBool, min}
-use Rattle.std.proofs.lemmas.Bool.{cases_Bool, cond-true, cond-false, cond_both, cases_lt, true≢false}
-use Rattle.std.proofs.lemmas.List.{length-append}
-use Rattle.tcel_num.specs.Arithmetic.{holds}
-use Rattle.tcel_num.specs.Plan.{Plan, Point, PointName, before, within}
+use Rattle.std.proofs.lemmas.Bool.{cases_Bool, cases_lt}
+use Rattle.tcel_num.specs.Plan.{Point, PointName, before, within}
 use Rattle.tcel_core.specs.declared.var.Var.{Var}
 use Rattle.tcel_core.specs.Contents.{has_event}
-use Rattle.tcel_core.specs.Language.{Window, Block, done, next, Stmt, item, choice, timed, Act}
-use Rattle.tcel_core.specs.Meaning.{exec, exec_act, exec_stmt, value}
+use Rattle.tcel_core.specs.Language.{Window, Block, done, next, Stmt, item, choice, timed}
+use Rattle.tcel_core.specs.Meaning.{exec, exec_act, exec_stmt}
 use Rattle.tcel_core.specs.Outcome.{Memory, Occurrence, EnclosingBlock, enclosed}
 use Rattle.tcel_core.specs.Windows.{latest, lesser, start_bound}
-use Rattle.tcel_core.proofs.Bodies.{Fits, StmtFits, ActFits, ActIsUntimed, ArePlain, act_plain, block_quiet, length-enclosed}
+use Rattle.tcel_core.proofs.Bodies.{Fits, StmtFits, IsUntimed, StmtIsUntimed, ActIsUntimed, ArePlain, act_plain, block_quiet}
 use Rattle.tcel_image.specs.declared.costs.Costs.{Costs}
 use Rattle.tcel_tool.specs.Code.{hold_of}
 use Rattle.tcel_tool.specs.Costs.{expr_cycles}
-use Rattle.tcel_tool.specs.Walks.{Counts, Walks, StmtWalks, Then, Either, Passes, IsGreatest, IsFirst, IsLast, FirstAt, LastAt, IsTotal, IsFirstCount, IsLastCount, held_entry, jump_cost}
+use Rattle.tcel_tool.specs.Walks.{Counts, Walks, IsGreatest, IsLast, FirstAt, LastAt, IsFirstCount, IsLastCount, held_entry}
 use Rattle.tcel_tool.specs.WholePlan.{ArePoints, AreStmtPoints, AreBlockPoints, IsPointFor}
 use Rattle.tcel_tool.proofs.RunWalks.{RunWalks, StmtRunWalks, run_walk, stmt_run_walk, by_branch, stmt_counts}
 use Rattle.tcel_tool.proofs.SteadyWalks.{AreInOrder, AreUpTo, AreLater, IsSteady, block_steady, stmt_steady, held_rises}
@@ -30,6 +28,30 @@ abbrev mutual
   StmtLoopsAreUntimed (item id act) = ActIsUntimed act
   StmtLoopsAreUntimed (choice id test held other) = LoopsAreUntimed held × LoopsAreUntimed other
   StmtLoopsAreUntimed (timed id window body) = LoopsAreUntimed body
+
+mutual
+  pub untimed_loops : (b : Block) → IsUntimed b → LoopsAreUntimed b
+  untimed_loops done h = tt
+  untimed_loops (next s rest) h = (untimed_stmt s h.0, untimed_loops rest h.1)
+
+  untimed_stmt : (s : Stmt) → StmtIsUntimed s → StmtLoopsAreUntimed s
+  untimed_stmt (item id act) h = h
+  untimed_stmt (choice id test held other) h = (untimed_loops held h.0, untimed_loops other h.1)
+  untimed_stmt (timed id window body) h = absurd h
+
+-- without a `do` block there is no point
+mutual
+  pub no_points : (b : Block) (vars : List Var) (costs : Costs) (entry : ℕ) (points : List Point) → IsUntimed b → ArePoints b vars costs entry points → points ≡ []
+  no_points done vars costs entry points h are = are
+  no_points (next s rest) vars costs entry points h are =
+      are.6 ∙ ap (λ l. l ++ are.2) (no_stmt_points s vars costs entry are.0 h.0 are.3) ∙ no_points rest vars costs are.1 are.2 h.1 are.5
+
+  no_stmt_points : (s : Stmt) (vars : List Var) (costs : Costs) (entry : ℕ) (points : List Point) → StmtIsUntimed s → AreStmtPoints s vars costs entry points → points ≡ []
+  no_stmt_points (item id act) vars costs entry points h are = are
+  no_stmt_points (choice id test held other) vars costs entry points h are =
+      let inner : ℕ = entry + (expr_cycles costs vars test + costs.branch) in
+      are.4 ∙ ap (λ l. l ++ are.1) (no_points held vars costs inner are.0 h.0 are.2) ∙ no_points other vars costs inner are.1 h.1 are.3
+  no_stmt_points (timed id window body) vars costs entry points h are = absurd h
 
 -- ---- the first event of a walk, and the last
 

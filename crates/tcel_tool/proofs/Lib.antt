@@ -3,7 +3,6 @@ pub mod Ahead
 pub mod ExprRuns
 pub mod Inputs
 pub mod Dues
-pub mod WalksGoOn
 pub mod SteadyWalks
 pub mod RunWalks
 pub mod BodyRuns

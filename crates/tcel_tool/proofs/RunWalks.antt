@@ -57,14 +57,14 @@ mutual
         elim w.two as (λ _. Either (Then (Walks held vars costs) (Passes (jump_cost costs other))) (Walks other vars costs) w.middle end w.after) [
           | inl held_walk ↦
               inl (
-                record {
-                  middle = held_walk.middle;
-                  before = held_walk.before;
-                  after = held_walk.after;
-                  one = run_walk held vars costs m w.middle held_walk.middle held_walk.before held_walk.one.1;
-                  two = held_walk.two;
-                  joined = held_walk.joined;
-                }
+              record {
+                middle = held_walk.middle;
+                before = held_walk.before;
+                after = held_walk.after;
+                one = run_walk held vars costs m w.middle held_walk.middle held_walk.before held_walk.one.1;
+                two = held_walk.two;
+                joined = held_walk.joined;
+              }
               )
           | inr other_walk ↦ inr (run_walk other vars costs m w.middle end w.after other_walk.1)
         ];

@@ -1,5 +1,5 @@
 -- Walks have their events in order, and from a later entry there are walks with as many events, each no earlier.
-use Rattle.std.proofs.Common.{◌≡◌, ℕ, zero, suc, ◌+◌, ◌≤◌, List, [], ◌∷◌, ◌++◌, refl, sym, subst, arith, Option, Some, None, inl, inr}
+use Rattle.std.proofs.Common.{ℕ, zero, suc, ◌+◌, ◌≤◌, List, [], ◌∷◌, ◌++◌, refl, sym, subst, arith, Option, Some, None, inl, inr}
 use Rattle.tcel_core.specs.declared.var.Var.{Var}
 use Rattle.tcel_core.specs.Language.{Block, done, next, Stmt, item, choice, timed, Act, assign, assign_at, receive, send, for_loop, while_loop, copy}
 use Rattle.tcel_image.specs.declared.costs.Costs.{Costs}
@@ -11,6 +11,10 @@ use Rattle.tcel_tool.specs.Walks.{Counts, Walks, StmtWalks, ActWalks, Then, Eith
 abbrev pub AreUpTo : ℕ → List ℕ → Type 0
 AreUpTo end [] = Unit {0}
 AreUpTo end (c ∷ cs) = (c ≤ end) × AreUpTo end cs
+
+pub upto_later : (sooner later : ℕ) (cs : List ℕ) → sooner ≤ later → AreUpTo sooner cs → AreUpTo later cs
+upto_later sooner later [] h g = tt
+upto_later sooner later (c ∷ cs) h g = (let k = g.0 in omega arith, upto_later sooner later cs h g.1)
 
 -- counts in order, from an entry to an end
 abbrev pub AreInOrder : List ℕ → ℕ → ℕ → Type 0
