@@ -32,9 +32,6 @@ abbrev Repeat : List Plan → ℕ → Type 0
 Repeat [] hyper = Unit {0}
 Repeat (p ∷ plans) hyper = (hyper ≡ hyper / p.period * p.period) × (0 < p.period) × Repeat plans hyper
 
-HasMultiple : ℕ → Plan → Type 0
-HasMultiple n plan = (k : ℕ) × (n ≡ k * plan.period)
-
 one_repeats : (p : Plan) (hyper k : ℕ) → 0 < hyper → hyper ≡ k * p.period → (hyper ≡ hyper / p.period * p.period) × (0 < p.period)
 one_repeats p hyper k some e =
     elim (cases_lt 0 p.period) [

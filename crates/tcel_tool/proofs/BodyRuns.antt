@@ -27,6 +27,7 @@ use Rattle.tcel_image.specs.Machine.{Running, effect}
 use Rattle.tcel_image.specs.Spelling.{state_words}
 use Rattle.tcel_tool.specs.Code.{at, expr_code, block_code, stmt_code, act_code, hold_of, hold_code, branches_code, held_length}
 use Rattle.tcel_core.specs.Contents.{act_loops, stmt_loops, loops, has_statement, has_event}
+use Rattle.tcel_core.specs.Scope.{IsScalar, IsSound, AreTurns, ActFits, StmtFits, Fits}
 use Rattle.tcel_tool.specs.Costs.{code_cycles, expr_cycles}
 use Rattle.tcel_tool.specs.Walks.{Counts, WhileWalks, Walks, ActWalks, Then, Either, Rounds, RoundsUpTo, Passes, held_entry}
 use Rattle.tcel_tool.proofs.RunWalks.{Given, RunWalks, StmtRunWalks, run_walk}
@@ -34,9 +35,9 @@ use Rattle.tcel_tool.proofs.Ahead.{Due, Ahead, IsAt, quietly, showing, after_cyc
 use Rattle.tcel_tool.proofs.ExprRuns.{Stands, stands_front, stands_back, ready_at, EndsByCycles, cycles-depth, ahead_at, quiet_step, expr_runs}
 use Rattle.tcel_core.proofs.Remain.{Remain, take_one, takes, takes-append}
 use Rattle.tcel_tool.proofs.Inputs.{same_input}
-use Rattle.tcel_core.proofs.Scope.{IsScalar, IsSound, array_within, value_front}
+use Rattle.tcel_core.proofs.Scope.{array_within, value_front}
 use Rattle.tcel_num.proofs.Words.{with_element_front, copied_front}
-use Rattle.tcel_core.proofs.Bodies.{AreTurns, block_words, block_remains, rounds_keep, ActFits, StmtFits, Fits, length-enclosed, takes-enclosed, stmt_words, stmt_remains, block_quiet}
+use Rattle.tcel_core.proofs.Bodies.{block_words, block_remains, rounds_keep, length-enclosed, takes-enclosed, stmt_words, stmt_remains, block_quiet}
 use Rattle.tcel_tool.proofs.Dues.{Suits, AllSuit, suit_split, no_dues, suit_inside}
 
 -- the due of one event

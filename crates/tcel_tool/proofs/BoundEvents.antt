@@ -9,7 +9,8 @@ use Rattle.tcel_core.specs.Language.{Window, Block, done, next, Stmt, item, choi
 use Rattle.tcel_core.specs.Meaning.{exec, exec_act, exec_stmt}
 use Rattle.tcel_core.specs.Outcome.{Memory, Occurrence, EnclosingBlock, enclosed}
 use Rattle.tcel_core.specs.Windows.{latest, lesser, start_bound}
-use Rattle.tcel_core.proofs.Bodies.{Fits, StmtFits, IsUntimed, StmtIsUntimed, ActIsUntimed, ArePlain, act_plain, block_quiet}
+use Rattle.tcel_core.specs.Scope.{Fits, StmtFits, IsUntimed, StmtIsUntimed, LoopsAreUntimed, StmtLoopsAreUntimed}
+use Rattle.tcel_core.proofs.Bodies.{ArePlain, act_plain, block_quiet}
 use Rattle.tcel_image.specs.declared.costs.Costs.{Costs}
 use Rattle.tcel_tool.specs.Code.{hold_of}
 use Rattle.tcel_tool.specs.Costs.{expr_cycles}
@@ -18,17 +19,7 @@ use Rattle.tcel_tool.specs.WholePlan.{ArePoints, AreStmtPoints, AreBlockPoints, 
 use Rattle.tcel_tool.proofs.RunWalks.{RunWalks, StmtRunWalks, run_walk, stmt_run_walk, by_branch, stmt_counts}
 use Rattle.tcel_tool.proofs.SteadyWalks.{AreInOrder, AreUpTo, AreLater, IsSteady, block_steady, stmt_steady, held_rises}
 
--- bodies whose loops hold no `do` block
-abbrev mutual
-  pub LoopsAreUntimed : Block → Type 0
-  LoopsAreUntimed done = Unit {0}
-  LoopsAreUntimed (next s rest) = StmtLoopsAreUntimed s × LoopsAreUntimed rest
-
-  pub StmtLoopsAreUntimed : Stmt → Type 0
-  StmtLoopsAreUntimed (item id act) = ActIsUntimed act
-  StmtLoopsAreUntimed (choice id test held other) = LoopsAreUntimed held × LoopsAreUntimed other
-  StmtLoopsAreUntimed (timed id window body) = LoopsAreUntimed body
-
+-- where there is no `do` block, no loop holds one
 mutual
   pub untimed_loops : (b : Block) → IsUntimed b → LoopsAreUntimed b
   untimed_loops done h = tt

@@ -14,6 +14,7 @@ pub mod WholeFrames
 pub mod SetRuns
 pub mod SetMeets
 pub mod WholeSets
+pub mod NeverLateSets
 pub mod PlainMeets
 pub mod Options
 pub mod Places

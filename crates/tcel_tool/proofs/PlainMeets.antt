@@ -19,6 +19,7 @@ use Rattle.std.proofs.Common.{false}
 use Rattle.tcel_num.specs.Plan.{Plan, Point, frame}
 use Rattle.tcel_num.specs.Schedule.{served}
 use Rattle.tcel_core.specs.Meets.{Meets}
+use Rattle.tcel_core.specs.Scope.{ActIsUntimed, ActFits, Fits, IsUntimed, IsScalar, IsSound}
 use Rattle.tcel_image.specs.declared.costs.Costs.{Costs}
 use Rattle.tcel_image.specs.Costs.{CostsInRange}
 use Rattle.tcel_image.specs.Machine.{trace}
@@ -35,8 +36,6 @@ use Rattle.tcel_tool.specs.declared.plain_tree.PlainExpr.TheVariants as exprs
 use Rattle.tcel_tool.specs.declared.plain_tree.Operand.{Operand}
 use Rattle.tcel_tool.specs.declared.plain_tree.Operand.TheVariants as operands
 use Rattle.std.specs.List.{AllByRecursion}
-use Rattle.tcel_core.proofs.Bodies.{ActIsUntimed, ActFits, Fits, IsUntimed}
-use Rattle.tcel_core.proofs.Scope.{IsScalar, IsSound}
 use Rattle.tcel_num.proofs.ServedAlone.{served_whole}
 use Rattle.tcel_tool.proofs.BoundEvents.{EachPoint, no_points, untimed_loops}
 use Rattle.tcel_tool.proofs.WholeFrames.{Reaches}

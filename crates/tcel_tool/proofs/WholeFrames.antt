@@ -25,10 +25,11 @@ use Rattle.tcel_image.specs.declared.image.Line.{Line}
 use Rattle.std.specs.List.{flat_map}
 use Rattle.tcel_tool.specs.Code.{at, block_code}
 use Rattle.tcel_core.specs.Contents.{loops}
+use Rattle.tcel_core.specs.Scope.{Fits}
 use Rattle.tcel_tool.specs.Layout.{image_task, states_of}
 use Rattle.tcel_tool.specs.WholePlan.{IsWholePlan}
 use Rattle.tcel_tool.proofs.Ahead.{Due, Ahead, IsAt, makes_last, showing, after_cycles}
-use Rattle.tcel_core.proofs.Bodies.{Fits, block_words, block_remains}
+use Rattle.tcel_core.proofs.Bodies.{block_words, block_remains}
 use Rattle.tcel_tool.proofs.Dues.{AllSuit}
 use Rattle.tcel_tool.proofs.SteadyWalks.{AreUpTo}
 use Rattle.tcel_tool.proofs.RunWalks.{RunWalks, run_walk}

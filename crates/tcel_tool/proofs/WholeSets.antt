@@ -10,15 +10,15 @@ use Rattle.tcel_core.specs.Language.{Task}
 use Rattle.tcel_core.specs.Meaning.{exec}
 use Rattle.tcel_core.specs.Meets.{Meets, Shows, behaviors_of}
 use Rattle.tcel_core.specs.Promises.{behavior_of as task_behavior}
+use Rattle.tcel_core.specs.Scope.{Fits, LoopsAreUntimed}
 use Rattle.tcel_image.specs.declared.costs.Costs.{Costs}
 use Rattle.tcel_image.specs.Costs.{CostsInRange}
 use Rattle.tcel_image.specs.Machine.{Streams, trace}
 use Rattle.tcel_tool.specs.Layout.{image_of, image_task}
 use Rattle.tcel_tool.specs.WholePlan.{IsWholePlan}
-use Rattle.tcel_core.proofs.Bodies.{Fits}
 use Rattle.tcel_tool.proofs.SteadyWalks.{block_steady, order_by_end, upto_later}
 use Rattle.tcel_tool.proofs.RunWalks.{RunWalks, run_walk}
-use Rattle.tcel_tool.proofs.BoundEvents.{LoopsAreUntimed, EachPoint, block_bound}
+use Rattle.tcel_tool.proofs.BoundEvents.{EachPoint, block_bound}
 use Rattle.tcel_tool.proofs.Progress.{IsDue}
 use Rattle.tcel_tool.proofs.SetMeets.{image_of_sites, shows}
 use Rattle.tcel_tool.proofs.SetRuns.{Site, Numbered, task_of, plan_of, behavior_of}
