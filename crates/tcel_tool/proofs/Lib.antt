@@ -15,6 +15,7 @@ pub mod SetRuns
 pub mod SetMeets
 pub mod WholeSets
 pub mod NeverLateSets
+pub mod WindowedExample
 pub mod PlainMeets
 pub mod Options
 pub mod Places
