@@ -1,5 +1,5 @@
 -- Bodies of checked programs: what they leave of words and inputs, and which events they make.
-use Rattle.std.proofs.Common.{pos, ◌^◌, ◌<◌, ◌≡◌, ℕ, zero, suc, Bool, true, false, cond, ℤ, List, [], ◌∷◌, ◌++◌, length, get_or, refl, sym, ap, ◌∙◌, subst, arith}
+use Rattle.std.proofs.Common.{pos, ◌≡◌, ℕ, zero, suc, Bool, true, false, cond, ℤ, List, [], ◌∷◌, ◌++◌, length, get_or, refl, sym, ap, ◌∙◌, subst, arith}
 use Rattle.std.proofs.lemmas.Bool.{cond_both, true≢false}
 use Rattle.std.proofs.lemmas.List.{length-set}
 use Rattle.tcel_num.specs.Arithmetic.{holds}
@@ -11,33 +11,8 @@ use Rattle.tcel_core.specs.Language.{Block, done, next, Window, Stmt, item, choi
 use Rattle.tcel_core.specs.Meaning.{exec, exec_act, exec_stmt, head_or_zero, value, with_cells}
 use Rattle.tcel_core.specs.Outcome.{Memory, Occurrence, Outcome, enclosed, quiet, rounds, rounds_while, then_run}
 use Rattle.tcel_core.proofs.Remain.{Remain, take_one, takes, takes-append, remain_after}
-use Rattle.tcel_core.proofs.Scope.{IsScalar, IsSound, AreAlike, array_within}
-
--- ---- which bodies: scalars where scalars are named, operators with their operands, loops with turns, copies between arrays of one width
-
--- turns that a counter can count
-pub record AreTurns (n : ℕ) : Type 0 where
-  pub some : 0 < n
-  pub countable : n < 2 ^ 63
-
-abbrev mutual
-  pub Fits : Block → List Var → Type 0
-  Fits done vars = Unit {0}
-  Fits (next s rest) vars = StmtFits s vars × Fits rest vars
-
-  pub StmtFits : Stmt → List Var → Type 0
-  StmtFits (item id act) vars = ActFits act vars
-  StmtFits (choice id test held other) vars = IsSound vars test × Fits held vars × Fits other vars
-  StmtFits (timed id window body) vars = Fits body vars
-
-  pub ActFits : Act → List Var → Type 0
-  ActFits (assign v e) vars = IsScalar vars v × IsSound vars e
-  ActFits (assign_at v i e) vars = IsSound vars i × IsSound vars e
-  ActFits (receive v port) vars = IsScalar vars v
-  ActFits (send e port) vars = IsSound vars e
-  ActFits (for_loop v n body) vars = IsScalar vars v × AreTurns n × Fits body vars
-  ActFits (while_loop test n body) vars = IsSound vars test × AreTurns n × Fits body vars
-  ActFits (copy a b) vars = AreAlike vars a b
+use Rattle.tcel_core.specs.Scope.{Fits, StmtFits, ActFits, IsUntimed, StmtIsUntimed, ActIsUntimed}
+use Rattle.tcel_core.proofs.Scope.{array_within}
 
 -- ---- events in blocks
 
@@ -185,21 +160,6 @@ mutual
 
 -- ---- bodies with no `do` block
 
-abbrev mutual
-  pub IsUntimed : Block → Type 0
-  IsUntimed done = Unit {0}
-  IsUntimed (next s rest) = StmtIsUntimed s × IsUntimed rest
-
-  pub StmtIsUntimed : Stmt → Type 0
-  StmtIsUntimed (item id act) = ActIsUntimed act
-  StmtIsUntimed (choice id test held other) = IsUntimed held × IsUntimed other
-  StmtIsUntimed (timed id window body) = ⊥
-
-  pub ActIsUntimed : Act → Type 0
-  ActIsUntimed (for_loop v n body) = IsUntimed body
-  ActIsUntimed (while_loop test n body) = IsUntimed body
-  ActIsUntimed _ = Unit {0}
-
 -- events with no block around them
 abbrev pub ArePlain : List Occurrence → Type 0
 ArePlain [] = Unit {0}
@@ -223,7 +183,7 @@ mutual
       (λ _. block_plain held vars h.1 plain.0 m) (λ _. block_plain other vars h.2 plain.1 m)
   stmt_plain (timed id window body) vars h plain m = absurd plain
 
-  act_plain : (act : Act) (vars : List Var) → ActFits act vars → ActIsUntimed act → (m : Memory) → ArePlain (exec_act act vars m).events
+  pub act_plain : (act : Act) (vars : List Var) → ActFits act vars → ActIsUntimed act → (m : Memory) → ArePlain (exec_act act vars m).events
   act_plain (assign v e) vars h plain m = tt
   act_plain (assign_at v i e) vars h plain m = tt
   act_plain (receive v port) vars h plain m = (refl, tt)

@@ -9,4 +9,5 @@ pub mod Meets
 pub mod Outcome
 pub mod Plain
 pub mod Promises
+pub mod Scope
 pub mod Windows

@@ -3,6 +3,7 @@ pub mod Quotients
 pub mod Responses
 pub mod Served
 pub mod ServedAlone
+pub mod ServedAtLast
 pub mod ReachedInTime
 pub mod Hyperperiods
 pub mod Words

@@ -8,7 +8,7 @@ use Rattle.tcel_core.specs.declared.event.EventKind.TheVariants as kinds
 use Rattle.tcel_core.specs.Cells.{place, width, set_element, copy_words}
 use Rattle.tcel_core.specs.Language.{Expr, assign, assign_at, receive, send, copy}
 use Rattle.tcel_core.specs.Meaning.{next_input, received, value, with_cells}
-use Rattle.tcel_core.proofs.Bodies.{ActFits}
+use Rattle.tcel_core.specs.Scope.{ActFits}
 use Rattle.tcel_core.proofs.Remain.{take_one}
 use Rattle.tcel_core.proofs.Scope.{array_within}
 use Rattle.tcel_image.specs.declared.costs.CostKey.TheVariants as keys

@@ -1,9 +1,10 @@
 -- The code of statements on the machine: what it leaves is what the statements mean, and its ticks are at most those of a walk.
-use Rattle.std.proofs.Common.{◌+◌, length, arith}
+use Rattle.std.proofs.Common.{ℕ, ◌+◌, length, arith}
 use Rattle.tcel_core.specs.Contents.{stmt_loops, loops}
 use Rattle.tcel_core.specs.Language.{Block, done, next, Stmt, item, choice, timed, Act, assign, assign_at, receive, send, for_loop, while_loop, copy}
 use Rattle.tcel_core.specs.Meaning.{exec, exec_stmt}
-use Rattle.tcel_core.proofs.Bodies.{ActFits, StmtFits, Fits, stmt_words, stmt_remains}
+use Rattle.tcel_core.specs.Scope.{ActFits, StmtFits, Fits}
+use Rattle.tcel_core.proofs.Bodies.{stmt_words, stmt_remains}
 use Rattle.tcel_core.proofs.Remain.{takes}
 use Rattle.tcel_tool.specs.Code.{block_code, stmt_code}
 use Rattle.tcel_tool.proofs.ActRuns.{assign_runs, assign_at_runs, copy_runs, receive_runs, send_runs}
@@ -34,13 +35,19 @@ module _ (s : Setting) where
       let two = rest_does o.memory (low + stmt_loops stmt) (p + length code) one.end floor (counter + stmt_loops stmt) one.left (takes o.events taken) left (omega arith) (stands_back task.code p code behind stands) in
       then_runs s code behind (exec rest vars) one (goes_lower s low two (omega arith))
 
+  -- a statement of its own: its walk has a count for each event
+  item_runs : (id : ℕ) (act : Act) → ActDoes s act → StmtDoes s (item id act)
+  item_runs id act act_does m low p entry floor counter others taken order at_low stands =
+      let r = act_does m low p entry floor counter others taken order at_low stands in
+      record { end = r.end; counts = r.counts; left = r.left; walk = (r.walk, r.each); each = r.each; as_many = r.as_many; kept = r.kept; ahead = r.ahead }
+
   mutual
     pub block_runs : (b : Block) → Fits b vars → BlockDoes s b
     block_runs done fits = done_runs
     block_runs (next stmt rest) fits = next_runs stmt rest fits.0 (stmt_runs stmt fits.0) (block_runs rest fits.1)
 
     stmt_runs : (stmt : Stmt) → StmtFits stmt vars → StmtDoes s stmt
-    stmt_runs (item id act) fits = act_runs act fits
+    stmt_runs (item id act) fits = item_runs id act (act_runs act fits)
     stmt_runs (choice id test held other) fits = choice_runs s id test held other fits.0 (block_runs held fits.1) (block_runs other fits.2)
     stmt_runs (timed id window body) fits = timed_runs s id window body fits (block_runs body fits)
 

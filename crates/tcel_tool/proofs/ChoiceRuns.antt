@@ -7,16 +7,17 @@ use Rattle.tcel_core.specs.Contents.{has_statement, loops}
 use Rattle.tcel_core.specs.Language.{Expr, Block, choice, done, next}
 use Rattle.tcel_core.specs.Meaning.{exec, value}
 use Rattle.tcel_core.specs.Outcome.{Memory, quiet}
+use Rattle.tcel_core.specs.Scope.{IsSound}
 use Rattle.tcel_core.proofs.Remain.{takes}
-use Rattle.tcel_core.proofs.Scope.{IsSound}
 use Rattle.tcel_image.specs.declared.costs.CostKey.TheVariants as keys
 use Rattle.tcel_image.specs.declared.image.Instr.TheVariants.{Branch, Jump}
 use Rattle.tcel_image.specs.declared.image.Line.{Line}
 use Rattle.tcel_tool.specs.Code.{at, expr_code, block_code, stmt_code, branches_code, held_length}
 use Rattle.tcel_tool.specs.Costs.{expr_cycles}
-use Rattle.tcel_tool.specs.Walks.{Walks, StmtWalks, Then, Either, Passes, jump_cost}
+use Rattle.tcel_tool.specs.Walks.{Then, Either, Passes, jump_cost}
 use Rattle.tcel_tool.proofs.ExprRuns.{Stands, stands_front, stands_back}
 use Rattle.tcel_tool.proofs.Runs.{BlockDoes, Goes, Runs, StmtDoes, goes_by, goes_lower, goes_to, pass_goes, stays_goes, test_goes, then_goes, then_quiet, with_fewer}
+use Rattle.tcel_tool.proofs.RunWalks.{Given, RunWalks, StmtRunWalks}
 use Rattle.tcel_tool.proofs.Steps.{Setting, quiet_step}
 
 -- ---- where the branches stand
@@ -74,20 +75,25 @@ module _ (s : Setting) where
       let branch = at 1 (Branch no_at) in
       let tested = stands_front task.code p (before ++ branch) branches (subst (Stands task.code p) (sym (append_assoc before branch branches)) stands) in
       let behind = (stands_back task.code p before (branch ++ branches) stands).1 in
-      let BranchWalks = Either (Then (Walks held vars costs) (Passes (jump_cost costs other))) (Walks other vars costs) in
+      let holds_now = holds (value test vars m.cells) in
+      let HeldWalks = Given (holds_now ≡ true) (RunWalks held vars costs m) in
+      let OtherWalks = Given (holds_now ≡ false) (RunWalks other vars costs m) in
+      let BranchWalks = Either (Then HeldWalks (Passes (jump_cost costs other))) OtherWalks in
       let end_at : no_at + length other_code ≡ p + length (before ++ (branch ++ branches)) = omega (arith, length-append before (branch ++ branches), length-branches has yes_at yes_code other_code none) in
-      cond_both (holds (value test vars m.cells)) (exec held vars) (exec other vars)
-      (λ f. Runs s (StmtWalks (choice id test held other) vars costs) (stmt_code (choice id test held other) vars p counter) (f m) low p entry floor m.cells others taken)
+      cond_both holds_now (exec held vars) (exec other vars)
+      (λ f. Runs s (StmtRunWalks (choice id test held other) vars costs m) (stmt_code (choice id test held other) vars p counter) (f m) low p entry floor m.cells others taken)
       (λ is.
       let o = exec held vars m in
-      let r = held_does m low yes_at (entry + test_cycles) floor counter others taken (with_fewer s order (omega arith)) at_low (yes_stands task.code has yes_at yes_code other_code behind) in
+      let does = held_does m low yes_at (entry + test_cycles) floor counter others taken (with_fewer s order (omega arith)) at_low (yes_stands task.code has yes_at yes_code other_code behind) in
+      let r = goes_by s HeldWalks does (λ from to es w. (is, w)) in
       let past = past_other s has o.memory low yes_at r.end floor yes_code other_code r.left (takes o.events taken) none behind in
       goes_to s
       (then_goes s (exec held vars) (test_goes s test sound true m low p no_at entry floor others taken order.words tested is) (goes_by s BranchWalks (then_quiet s r past) (λ from to es w. inl w)))
       end_at)
       (λ is.
-      let r = other_does m (low + loops held) no_at (entry + test_cycles) floor (counter + loops held) others taken (with_fewer s order (omega arith)) (omega arith)
+      let does = other_does m (low + loops held) no_at (entry + test_cycles) floor (counter + loops held) others taken (with_fewer s order (omega arith)) (omega arith)
       (no_stands task.code has yes_at yes_code other_code none behind) in
+      let r = goes_by s OtherWalks does (λ from to es w. (is, w)) in
       goes_to s
       (then_goes s (exec other vars) (test_goes s test sound false m low p no_at entry floor others taken order.words tested is) (goes_by s BranchWalks (goes_lower s low r (omega arith)) (λ from to es w. inr w)))
       end_at)

@@ -12,7 +12,8 @@ use Rattle.tcel_core.specs.declared.var.Var.{Var}
 use Rattle.tcel_core.specs.Cells.{all_words, place, width}
 use Rattle.tcel_core.specs.Language.{Expr, number, variable, element, unary, binary}
 use Rattle.tcel_core.specs.Meaning.{value}
-use Rattle.tcel_core.proofs.Scope.{HaveOperands, IsSound, value_front}
+use Rattle.tcel_core.specs.Scope.{HaveOperands, IsSound}
+use Rattle.tcel_core.proofs.Scope.{value_front}
 use Rattle.tcel_image.specs.declared.costs.Costs.{Costs}
 use Rattle.tcel_image.specs.declared.costs.CostKey.TheVariants as keys
 use Rattle.tcel_image.specs.declared.image.Instr.{Instr}

@@ -7,8 +7,8 @@ use Rattle.tcel_core.specs.declared.var.Var.{Var}
 use Rattle.tcel_core.specs.Cells.{all_words, place, width}
 use Rattle.tcel_core.specs.Contents.{has_statement, loops, stmt_loops, act_loops}
 use Rattle.tcel_core.specs.Language.{Expr, number, variable, element, unary, binary, Block, done, next, Stmt, item, choice, timed, Act, assign, assign_at, receive, send, for_loop, while_loop, copy}
-use Rattle.tcel_core.proofs.Bodies.{Fits, StmtFits, ActFits}
-use Rattle.tcel_core.proofs.Scope.{HaveOperands, IsInScope, IsScalar, IsSound, array_within}
+use Rattle.tcel_core.specs.Scope.{Fits, StmtFits, ActFits, HaveOperands, IsInScope, IsScalar, IsSound}
+use Rattle.tcel_core.proofs.Scope.{array_within}
 use Rattle.tcel_image.specs.declared.image.ImageTask.{ImageTask}
 use Rattle.tcel_image.specs.declared.image.Instr.{Instr}
 use Rattle.tcel_image.specs.declared.image.Instr.TheVariants.{Const, Get, Put, GetAt, PutAt, Arith, Jump, Branch, Loop, Receive, Send, Hold, Copy}

@@ -8,9 +8,8 @@ use Rattle.tcel_core.specs.Contents.{loops}
 use Rattle.tcel_core.specs.Language.{Block, for_loop}
 use Rattle.tcel_core.specs.Meaning.{exec, with_cells}
 use Rattle.tcel_core.specs.Outcome.{Memory, Outcome, rounds}
-use Rattle.tcel_core.proofs.Bodies.{ActFits}
+use Rattle.tcel_core.specs.Scope.{ActFits, IsScalar}
 use Rattle.tcel_core.proofs.Remain.{takes, takes-append}
-use Rattle.tcel_core.proofs.Scope.{IsScalar}
 use Rattle.tcel_image.specs.declared.costs.CostKey.TheVariants as keys
 use Rattle.tcel_image.specs.declared.image.Instr.TheVariants.{Const, Get, Loop, Put}
 use Rattle.tcel_tool.specs.Code.{at, act_code, block_code}
@@ -19,6 +18,7 @@ use Rattle.tcel_tool.proofs.Ahead.{quietly}
 use Rattle.tcel_tool.proofs.ExprRuns.{Stands, stands_front, stands_back}
 use Rattle.tcel_tool.proofs.LoopRuns.{LoopIn, AtTurn, GoesToTurn, loop_end, after_turns, begin_goes, begun, counter_word, turn_goes}
 use Rattle.tcel_tool.proofs.Runs.{ActDoes, BlockDoes, Goes, InOrder, goes_by, goes_to, pass_goes, stays_goes, then_goes}
+use Rattle.tcel_tool.proofs.RunWalks.{run_walk}
 use Rattle.tcel_tool.proofs.Steps.{Setting, LineAt, ready_at, ahead_at, quiet_step}
 
 -- a walk of rounds and then one more round
@@ -127,7 +127,10 @@ module _ (s : Setting) where
         code = code;
         floor = floor;
         body_goes =
-            λ m' entry' others' taken' order'. body_does m' (suc low) (p + 4) entry' floor (counter + 1) others' taken' order' (omega arith) (stands_front task.code (p + 4) code line behind);
+            λ m' entry' others' taken' order'.
+            goes_by s (Walks body vars s.costs)
+            (body_does m' (suc low) (p + 4) entry' floor (counter + 1) others' taken' order' (omega arith) (stands_front task.code (p + 4) code line behind))
+            (run_walk body vars s.costs m');
         count = (stands_back task.code (p + 4) code line behind).0;
       } in
       for_goes s l v fits.0 get put (omega arith) m p (p + length (act_code (for_loop v n body) vars p counter)) entry others taken order stands.0 stands.1.0 refl (omega (arith, length-append code line))

@@ -4,7 +4,8 @@ pub mod Steps
 pub mod ExprRuns
 pub mod Inputs
 pub mod Dues
-pub mod WalksGoOn
+pub mod SteadyWalks
+pub mod RunWalks
 pub mod Runs
 pub mod ActRuns
 pub mod ChoiceRuns
@@ -14,6 +15,7 @@ pub mod ForRuns
 pub mod WhileRuns
 pub mod FitCode
 pub mod BodyRuns
+pub mod BoundEvents
 pub mod StateWords
 pub mod Progress
 pub mod TaskMeets
@@ -21,6 +23,8 @@ pub mod WholeFrames
 pub mod SetRuns
 pub mod SetMeets
 pub mod WholeSets
+pub mod NeverLateSets
+pub mod WindowedExample
 pub mod PlainMeets
 pub mod ValidImages
 pub mod Options

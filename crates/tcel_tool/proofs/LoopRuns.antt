@@ -11,7 +11,8 @@ use Rattle.tcel_core.specs.Contents.{loops}
 use Rattle.tcel_core.specs.Language.{Block}
 use Rattle.tcel_core.specs.Meaning.{exec}
 use Rattle.tcel_core.specs.Outcome.{Memory, Outcome, quiet}
-use Rattle.tcel_core.proofs.Bodies.{AreTurns, Fits, block_words, block_remains}
+use Rattle.tcel_core.specs.Scope.{AreTurns, Fits}
+use Rattle.tcel_core.proofs.Bodies.{block_words, block_remains}
 use Rattle.tcel_core.proofs.Remain.{takes}
 use Rattle.tcel_image.specs.declared.costs.CostKey.TheVariants as keys
 use Rattle.tcel_image.specs.declared.image.Instr.TheVariants.{Const, Loop, Put}

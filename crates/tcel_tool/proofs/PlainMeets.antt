@@ -16,9 +16,10 @@ use Rattle.tcel_num.specs.declared.op.Op.{Op}
 use Rattle.tcel_num.specs.declared.op.Op.TheVariants as ops
 use Rattle.tcel_num.specs.Arithmetic.{is_unary}
 use Rattle.std.proofs.Common.{false}
-use Rattle.tcel_num.specs.Plan.{Plan}
+use Rattle.tcel_num.specs.Plan.{Plan, Point, frame}
 use Rattle.tcel_num.specs.Schedule.{served}
 use Rattle.tcel_core.specs.Meets.{Meets}
+use Rattle.tcel_core.specs.Scope.{ActIsUntimed, ActFits, Fits, IsUntimed, IsScalar, IsSound}
 use Rattle.tcel_image.specs.declared.costs.Costs.{Costs}
 use Rattle.tcel_image.specs.Costs.{CostsInRange}
 use Rattle.tcel_image.specs.Machine.{trace}
@@ -35,9 +36,9 @@ use Rattle.tcel_tool.specs.declared.plain_tree.PlainExpr.TheVariants as exprs
 use Rattle.tcel_tool.specs.declared.plain_tree.Operand.{Operand}
 use Rattle.tcel_tool.specs.declared.plain_tree.Operand.TheVariants as operands
 use Rattle.std.specs.List.{AllByRecursion}
-use Rattle.tcel_core.proofs.Bodies.{ActIsUntimed, ActFits, Fits, IsUntimed}
-use Rattle.tcel_core.proofs.Scope.{IsScalar, IsSound}
 use Rattle.tcel_num.proofs.ServedAlone.{served_whole}
+use Rattle.tcel_tool.proofs.BoundEvents.{EachPoint, no_points, untimed_loops}
+use Rattle.tcel_tool.proofs.WholeFrames.{Reaches}
 use Rattle.tcel_tool.proofs.WholeSets.{Serves, set_meets}
 
 -- ---- plain programs fit
@@ -136,10 +137,15 @@ module _ (tree : PlainTree) (costs : Costs) (plan : Plan) (plain : IsPlain tree)
   serves : Serves costs ranges (plan ∷ []) (streams ∷ []) 0 (task_of tree) plan
   serves = record {
     fits = block_fits 0 tree.decls tree.body plain.statements;
-    untimed = block_untimed 0 tree.decls tree.body;
+    loops = untimed_loops (task_of tree).body (block_untimed 0 tree.decls tree.body);
     positive = let some = plain.period.0 in omega arith;
     whole = whole;
-    in_time = in_time;
+    in_time =
+        λ f.
+        let mark_point : Point = record { prefix = whole.end + costs.mark; bound = tree.period; name = frame } in
+        let none = no_points (task_of tree).body (task_of tree).vars costs 0 whole.windows (block_untimed 0 tree.decls tree.body) whole.in_text in
+        let only = whole.points ∙ ap (λ (l : List Point). mark_point ∷ l) none in
+        subst (EachPoint (Reaches plan.total tree.period f service)) (sym only) (in_time f, tt);
     long = long;
   }
 

@@ -8,16 +8,17 @@ use Rattle.tcel_core.specs.Language.{Expr, Block, Stmt, Act}
 use Rattle.tcel_core.specs.Meaning.{exec, exec_act, exec_stmt, value}
 use Rattle.tcel_core.specs.Outcome.{Memory, Occurrence, Outcome, event, quiet, then_run}
 use Rattle.tcel_core.specs.Promises.{what_of}
+use Rattle.tcel_core.specs.Scope.{IsSound}
 use Rattle.tcel_core.proofs.Remain.{Remain, take_one, takes, takes-append}
-use Rattle.tcel_core.proofs.Scope.{IsSound}
 use Rattle.tcel_image.specs.declared.image.Instr.TheVariants.{Branch}
 use Rattle.tcel_image.specs.declared.image.Line.{Line}
 use Rattle.tcel_tool.specs.Code.{at, expr_code, block_code, stmt_code, act_code}
 use Rattle.tcel_tool.specs.Costs.{expr_cycles}
-use Rattle.tcel_tool.specs.Walks.{Counts, Walks, StmtWalks, ActWalks, Then, Passes, Shows}
+use Rattle.tcel_tool.specs.Walks.{Counts, ActWalks, Then, Passes, Shows}
 use Rattle.tcel_tool.proofs.Ahead.{Due}
 use Rattle.tcel_tool.proofs.Dues.{AllSuit, suit_split, no_dues, one_due}
 use Rattle.tcel_tool.proofs.ExprRuns.{Stands, test_runs}
+use Rattle.tcel_tool.proofs.RunWalks.{RunWalks, StmtRunWalks}
 use Rattle.tcel_tool.proofs.Steps.{Setting, AheadAt, ahead_at}
 
 pub quiet_after : (o : Outcome) → then_run o quiet ≡ o
@@ -64,20 +65,20 @@ module _ (s : Setting) where
   pub with_fewer : {m : Memory} {few many : ℕ} {others : List ℤ} {taken : List ℕ} → InOrder m many others taken → few ≤ many → InOrder m few others taken
   with_fewer order le = let room = order.room in record { words = order.words; room = omega arith; remain = order.remain }
 
-  -- code does what statements mean, wherever it stands and whenever a walk comes to it; the counters of its loops stand behind those of the loops around it
-  abbrev pub Does : (walks : Counts) (code : ℕ → ℕ → List Line) (means : Memory → Outcome) (counters : ℕ) → Type 0
+  -- code does what statements mean, along a walk of the run's own, wherever it stands and whenever the walk comes to it; the counters of its loops stand behind those of the loops around it
+  abbrev pub Does : (walks : Memory → Counts) (code : ℕ → ℕ → List Line) (means : Memory → Outcome) (counters : ℕ) → Type 0
   Does walks code means counters =
       (m : Memory) (low p entry floor counter : ℕ) (others : List ℤ) (taken : List ℕ) → InOrder m (low + counters) others taken → counter ≡ all_words vars + low → Stands task.code p (code p counter) →
-      Runs walks (code p counter) (means m) low p entry floor m.cells others taken
+      Runs (walks m) (code p counter) (means m) low p entry floor m.cells others taken
 
   abbrev pub BlockDoes : Block → Type 0
-  BlockDoes b = Does (Walks b vars costs) (block_code b vars) (exec b vars) (loops b)
+  BlockDoes b = Does (RunWalks b vars costs) (block_code b vars) (exec b vars) (loops b)
 
   abbrev pub StmtDoes : Stmt → Type 0
-  StmtDoes stmt = Does (StmtWalks stmt vars costs) (stmt_code stmt vars) (exec_stmt stmt vars) (stmt_loops stmt)
+  StmtDoes stmt = Does (StmtRunWalks stmt vars costs) (stmt_code stmt vars) (exec_stmt stmt vars) (stmt_loops stmt)
 
   abbrev pub ActDoes : Act → Type 0
-  ActDoes act = Does (ActWalks act vars costs) (act_code act vars) (exec_act act vars) (act_loops act)
+  ActDoes act = Does (λ m. ActWalks act vars costs) (act_code act vars) (exec_act act vars) (act_loops act)
 
   -- ---- the same, in other words
 

@@ -7,7 +7,8 @@ use Rattle.tcel_core.specs.Contents.{has_event}
 use Rattle.tcel_core.specs.Language.{Block, Window, timed}
 use Rattle.tcel_core.specs.Meaning.{exec}
 use Rattle.tcel_core.specs.Outcome.{Memory, Occurrence, enclosed}
-use Rattle.tcel_core.proofs.Bodies.{Fits, block_quiet, length-enclosed, takes-enclosed}
+use Rattle.tcel_core.specs.Scope.{Fits}
+use Rattle.tcel_core.proofs.Bodies.{block_quiet, length-enclosed, takes-enclosed}
 use Rattle.tcel_core.proofs.Remain.{takes}
 use Rattle.tcel_image.specs.declared.image.Line.{Line}
 use Rattle.tcel_tool.specs.Code.{block_code, hold_code, hold_of}

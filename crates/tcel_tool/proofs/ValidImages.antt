@@ -4,7 +4,7 @@ use Rattle.std.specs.List.{AllByRecursion}
 use Rattle.std.specs.Int.{IsInRange}
 use Rattle.tcel_core.specs.Cells.{all_words}
 use Rattle.tcel_core.specs.Language.{Task}
-use Rattle.tcel_core.proofs.Bodies.{Fits}
+use Rattle.tcel_core.specs.Scope.{Fits}
 use Rattle.tcel_image.specs.declared.costs.Costs.{Costs}
 use Rattle.tcel_image.specs.declared.image.Instr.TheVariants.{Mark, End}
 use Rattle.tcel_image.specs.Validity.{IsValid, has_twice, own_names}

@@ -7,9 +7,8 @@ use Rattle.tcel_core.specs.Contents.{loops}
 use Rattle.tcel_core.specs.Language.{Expr, Block, while_loop}
 use Rattle.tcel_core.specs.Meaning.{exec, value}
 use Rattle.tcel_core.specs.Outcome.{Memory, quiet, rounds_while, then_run}
-use Rattle.tcel_core.proofs.Bodies.{ActFits}
+use Rattle.tcel_core.specs.Scope.{ActFits, IsSound}
 use Rattle.tcel_core.proofs.Remain.{takes}
-use Rattle.tcel_core.proofs.Scope.{IsSound}
 use Rattle.tcel_image.specs.declared.image.Instr.TheVariants.{Branch, Const, Loop, Put}
 use Rattle.tcel_tool.specs.Code.{at, expr_code, act_code, block_code}
 use Rattle.tcel_tool.specs.Costs.{expr_cycles}
@@ -17,6 +16,7 @@ use Rattle.tcel_tool.specs.Walks.{Counts, WhileWalks, Walks, Then, RoundsUpTo, P
 use Rattle.tcel_tool.proofs.ExprRuns.{Stands, stands_front, stands_back}
 use Rattle.tcel_tool.proofs.LoopRuns.{LoopIn, AtTurn, loop_end, after_turns, begin_goes, begun, turn_goes}
 use Rattle.tcel_tool.proofs.Runs.{ActDoes, BlockDoes, Goes, InOrder, goes_by, goes_from, goes_to, stays_goes, test_goes, then_goes}
+use Rattle.tcel_tool.proofs.RunWalks.{run_walk}
 use Rattle.tcel_tool.proofs.Steps.{Setting, LineAt}
 
 -- a round, and then some more and a last test
@@ -112,7 +112,10 @@ module _ (s : Setting) where
         code = code;
         floor = floor;
         body_goes =
-            λ m' entry' others' taken' order'. body_does m' (suc low) from entry' floor (counter + 1) others' taken' order' (omega arith) (stands_front task.code from code line body_stands);
+            λ m' entry' others' taken' order'.
+            goes_by s (Walks body vars s.costs)
+            (body_does m' (suc low) from entry' floor (counter + 1) others' taken' order' (omega arith) (stands_front task.code from code line body_stands))
+            (run_walk body vars s.costs m');
         count = (stands_back task.code from code line body_stands).0;
       } in
       while_goes s l test fits.0 tested refl m p (p + length (act_code (while_loop test n body) vars p counter)) entry others taken order stands.0 stands.1.0 refl

@@ -25,13 +25,15 @@ use Rattle.tcel_image.specs.declared.image.Line.{Line}
 use Rattle.std.specs.List.{flat_map}
 use Rattle.tcel_tool.specs.Code.{at, block_code}
 use Rattle.tcel_core.specs.Contents.{loops}
+use Rattle.tcel_core.specs.Scope.{Fits}
 use Rattle.tcel_tool.specs.Layout.{image_task, states_of}
-use Rattle.tcel_tool.specs.Walks.{Walks}
 use Rattle.tcel_tool.specs.WholePlan.{IsWholePlan}
 use Rattle.tcel_tool.proofs.Ahead.{Due, Ahead, IsAt, makes_last, showing, after_cycles}
-use Rattle.tcel_core.proofs.Bodies.{Fits, block_words, block_remains, ArePlain}
+use Rattle.tcel_core.proofs.Bodies.{block_words, block_remains}
 use Rattle.tcel_tool.proofs.Dues.{AllSuit}
-use Rattle.tcel_tool.proofs.WalksGoOn.{AreUpTo}
+use Rattle.tcel_tool.proofs.SteadyWalks.{AreUpTo}
+use Rattle.tcel_tool.proofs.RunWalks.{RunWalks, run_walk}
+use Rattle.tcel_tool.proofs.BoundEvents.{AreBound, bound_latest}
 use Rattle.tcel_tool.proofs.Steps.{Setting, ready_at, show_step}
 use Rattle.tcel_tool.proofs.Runs.{Runs}
 use Rattle.tcel_tool.proofs.BodyRuns.{block_runs}
@@ -81,31 +83,32 @@ promises-dues frame release deadline [] (e ∷ events) h = absurd (omega arith)
 promises-dues frame release deadline (c ∷ counts) [] h = absurd (omega arith)
 promises-dues frame release deadline (c ∷ counts) (e ∷ events) h = ap (λ l. event_promise frame release (event_of deadline e) ∷ l) (promises-dues frame release deadline counts events (omega arith))
 
--- plain events are due by the end of a walk, which the demand schedule reaches by the deadline
-pub events_due : (total period deadline f last : ℕ) (service : ℕ → ℕ) → last ≤ total → f * total + last ≤ service (f * period + deadline) →
-    (counts : List ℕ) (events : List Occurrence) → AreUpTo last counts → ArePlain events →
+-- a task is served so many cycles of its frame f, and all of those before, so long after the frame's release
+abbrev pub Reaches : (total period f : ℕ) (service : ℕ → ℕ) → ℕ → ℕ → Type 0
+Reaches total period f service count bound = f * total + count ≤ service (f * period + bound)
+
+-- each event is due by its count, which is reached by its latest time where it is by the deadline and by the bounds of the blocks around the event
+pub events_due : (total period deadline f last : ℕ) (service : ℕ → ℕ) → last ≤ total → Reaches total period f service last deadline →
+    (counts : List ℕ) (events : List Occurrence) → AreUpTo last counts → AreBound (Reaches total period f service) events counts →
     EachDue (IsDue total period service f) (dues_of f (f * period) deadline counts events)
-events_due total period deadline f last service within reached [] events upto plain = tt
-events_due total period deadline f last service within reached (c ∷ counts) [] upto plain = tt
-events_due total period deadline f last service within reached (c ∷ counts) (e ∷ events) upto plain =
-    let none = plain.0 in
+events_due total period deadline f last service within reached [] events upto bound = tt
+events_due total period deadline f last service within reached (c ∷ counts) [] upto bound = tt
+events_due total period deadline f last service within reached (c ∷ counts) (e ∷ events) upto bound =
     let soon = upto.0 in
-    let by_deadline : latest deadline e.around ≡ deadline = ap (latest deadline) none in
+    let by_deadline : Reaches total period f service c deadline = omega arith in
+    let by_latest = bound_latest (Reaches total period f service) c deadline e.around by_deadline bound.0 in
     let due : IsDue total period service f (due_of f (f * period) deadline c e) = record {
       of_frame = refl;
       within = omega arith;
-      reached =
-          λ l is.
-          let when : f * period + deadline ≡ l = ap (λ n. f * period + n) (sym by_deadline) ∙ same_Some (f * period + latest deadline e.around) l is in
-          subst (λ n. f * total + c ≤ service n) when (omega arith);
+      reached = λ l is. subst (λ n. f * total + c ≤ service n) (same_Some (f * period + latest deadline e.around) l is) by_latest;
     } in
-    (due, events_due total period deadline f last service within reached counts events upto.1 plain.1)
+    (due, events_due total period deadline f last service within reached counts events upto.1 bound.1)
 
 -- ---- a task that is not sliced
 
 module _ (costs : Costs) (ranges : CostsInRange costs) (t : Task) (fits : Fits t.body t.vars) (plan : Plan) (whole : IsWholePlan t costs plan) (service : ℕ → ℕ) (streams : List (List ℤ)) (long : length streams ≡ length t.inputs)
     (mark_in_time : (f : ℕ) → f * plan.total + (whole.end + costs.mark) ≤ service (f * t.period + t.deadline))
-    (events_in_time : (f end : ℕ) (counts : List ℕ) → Walks t.body t.vars costs 0 end counts →
+    (events_in_time : (f end : ℕ) (counts : List ℕ) → RunWalks t.body t.vars costs (start_of t streams f) 0 end counts →
     EachDue (IsDue plan.total t.period service f) (dues_of f (f * t.period) t.deadline counts (exec t.body t.vars (start_of t streams f)).events)) where
   abbrev pub task : ImageTask
   task = image_task t
@@ -157,7 +160,7 @@ module _ (costs : Costs) (ranges : CostsInRange costs) (t : Task) (fits : Fits t
   setting f = record { costs = costs; ranges = ranges; task = task; inputs = streams; last = start (suc f); vars = t.vars; frame = f; stack = [] }
 
   -- a frame's body on the machine
-  runs : (f : ℕ) → Runs (setting f) (Walks t.body t.vars costs) body_code (does f) 0 0 0 0 (from f).cells counters (taken f)
+  runs : (f : ℕ) → Runs (setting f) (RunWalks t.body t.vars costs (from f)) body_code (does f) 0 0 0 0 (from f).cells counters (taken f)
   runs f =
       let many = length-replicate (loops t.body) (pos 0) in
       block_runs (setting f) t.body fits (from f) 0 0 0 0 (all_words t.vars) counters (taken f) (record { words = words f; room = omega arith; remain = remain f }) (omega arith)
@@ -232,7 +235,7 @@ module _ (costs : Costs) (ranges : CostsInRange costs) (t : Task) (fits : Fits t
   each : (f : ℕ) → EachDue (IsDue plan.total t.period service f) (dues f)
   each f =
       let P : Due → Type 0 = IsDue plan.total t.period service f in
-      let longest : (runs f).end ≤ whole.end = whole.longest.greatest (runs f).end ((runs f).counts, (runs f).walk) in
+      let longest : (runs f).end ≤ whole.end = whole.longest.greatest (runs f).end ((runs f).counts, run_walk t.body t.vars costs (from f) 0 (runs f).end (runs f).counts (runs f).walk) in
       let total = whole.total in
       let soon = mark_in_time f in
       let mark : P (mark_due f) = record {

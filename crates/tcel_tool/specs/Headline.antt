@@ -1,15 +1,20 @@
 -- The promise of the compiler: every run of a written image does what the source says.
-use Rattle.std.specs.Prelude.{◌≡◌, ℕ, ◌≤◌, ℤ, List, [], ◌∷◌, length}
+use Rattle.std.specs.Prelude.{◌≡◌, ℕ, ◌≤◌, ℤ, List, [], ◌∷◌, length, All}
+use Rattle.std.specs.List.{AllZip}
+use Rattle.tcel_num.specs.Hyperperiod.{IsHyperperiod, demand}
+use Rattle.tcel_num.specs.Lateness.{IsNeverLate}
 use Rattle.tcel_num.specs.Plan.{Plan}
+use Rattle.tcel_core.specs.Language.{Task}
 use Rattle.tcel_core.specs.Meets.{Meets}
+use Rattle.tcel_core.specs.Scope.{TaskFits}
 use Rattle.tcel_image.specs.declared.costs.Costs.{Costs}
 use Rattle.tcel_image.specs.Costs.{CostsInRange}
-use Rattle.tcel_image.specs.Machine.{trace}
+use Rattle.tcel_image.specs.Machine.{Streams, trace}
 use Rattle.tcel_image.specs.Spelling.{InRange}
 use Rattle.tcel_image.specs.Validity.{IsValid}
 use Rattle.tcel_tool.specs.Layout.{image_of}
 use Rattle.tcel_tool.specs.PlainTree.{IsPlain, task_of, set_of}
-use Rattle.tcel_tool.specs.WholePlan.{IsWholePlan}
+use Rattle.tcel_tool.specs.WholePlan.{IsWholePlan, AreWholePlans}
 use Rattle.tcel_tool.specs.declared.plain_tree.PlainTree.{PlainTree}
 
 -- over any streams of its inputs and for any number of ticks, the trace of a program's image meets the program, by its plan
@@ -31,3 +36,19 @@ pub record KeepsItsPromise (tree : PlainTree) (costs : Costs) : Type 0 where
   pub plan : Plan
   pub whole : IsWholePlan (task_of tree) costs plan
   pub runs : RunsMeet tree costs plan
+
+-- a stream for each input of a task
+abbrev pub HasStreams : Task → List (List ℤ) → Type 0
+HasStreams task streams = length streams ≡ length task.inputs
+
+-- over any streams of its inputs and for any number of ticks, the trace of a set's image meets the set, by these plans
+abbrev pub SetRunsMeet : List Task → Costs → List Plan → Type 0
+SetRunsMeet set costs plans =
+    (streams : Streams) (ticks : ℕ) → AllZip HasStreams set streams →
+    Meets set plans streams ticks (trace (image_of set costs) streams ticks)
+
+-- this is so of every set of which no task is sliced, where its demand fits and no point of its whole plans is ever late
+abbrev pub WholeSetsMeetTheirSource : Type 0
+WholeSetsMeetTheirSource =
+    (set : List Task) (costs : Costs) (plans : List Plan) (hyper : ℕ) → All TaskFits set → CostsInRange costs → AreWholePlans set costs plans →
+    IsHyperperiod plans hyper → demand plans hyper ≤ hyper → IsNeverLate plans → SetRunsMeet set costs plans
