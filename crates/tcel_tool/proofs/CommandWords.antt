@@ -2,10 +2,7 @@
 use Rattle.std.proofs.Common.{◌≡◌, ◌<◌, ℕ, List, [], ◌∷◌, length, get_or, map, Bool, sym, ◌∙◌, ap, arith}
 use Rattle.std.specs.Prelude.{IsTrue, codes}
 use Rattle.std.proofs.lemmas.List.{get_or-map}
-use Rattle.tcel_io.specs.Load.{Load}
-use Rattle.tcel_tool.specs.declared.status.Status.{Status}
-use Rattle.tcel_tool.specs.declared.status.Status.TheVariants as statuses
-use Rattle.tcel_tool.specs.Answer.{AreLoads, AreLoadsOf, IsCompile}
+use Rattle.tcel_tool.specs.Answer.{IsCompile}
 use Rattle.tcel_tool.specs.FaultLine.{word_at}
 
 -- three words of which the first is `compile`, where a test tells that of the first
@@ -24,17 +21,3 @@ compile_words f (a ∷ b ∷ c ∷ d ∷ more) first r three is test = absurd (o
 -- the text of a word that is there
 pub word_is : {A : Type 0} (f : A → List ℕ) (words : List A) (at : ℕ) (word : A) → at < length words → get_or words at word ≡ word → word_at (map f words) at ≡ f word
 word_is f words at word lt is = get_or-map f words at word [] lt ∙ ap f is
-
--- a command that has a form ends with the loads of its files
-pub loads_of_words : (words : List (List ℕ)) (status : Status) (loads : List Load) → AreLoads (word_at words 1) (word_at words 2) status loads → AreLoadsOf words status loads
-loads_of_words words statuses.Ok loads h = h
-loads_of_words words (statuses.Overload cycles hyper) loads h = h
-loads_of_words words (statuses.Limit fault) loads h = h
-loads_of_words words statuses.Words loads h = absurd h
-loads_of_words words (statuses.Image fail) loads h = absurd h
-loads_of_words words (statuses.Flaw flaw) loads h = absurd h
-loads_of_words words (statuses.Script fail) loads h = absurd h
-loads_of_words words (statuses.ReadFault w) loads h = h
-loads_of_words words statuses.WriteFault loads h = h
-loads_of_words words statuses.NoMemory loads h = h
-loads_of_words words (statuses.Beyond w) loads h = h

@@ -6,12 +6,13 @@ use Rattle.tcel_tool.specs.declared.status.Status.{Status}
 use Rattle.tcel_tool.specs.declared.status.Status.TheVariants.{Ok}
 use Rattle.tcel_tool.specs.Answer.{Answers, Accepts, image_bytes}
 use Rattle.tcel_tool.specs.Headline.{KeepsItsPromise}
+use Rattle.tcel_tool.specs.PlainTree.{set_of}
 use Rattle.tcel_num.specs.Hyperperiod.{demand}
 use Rattle.tcel_tool.proofs.OneTask.{promise}
 use Rattle.tcel_tool.proofs.Straight.{unit_range}
 
 -- after Ok the image of a plain program was taken, and the program's image keeps its promise
-pub kept : (program target : Option (List ℕ)) (All Some : List ℕ → Type 0) (status : Status) → Answers program target All Some status → status ≡ Ok → (tree : PlainTree) × Accepts program tree × All (image_bytes tree) × KeepsItsPromise tree unit_costs
+pub kept : (program target : Option (List ℕ)) (All Some : List ℕ → Type 0) (status : Status) → Answers program target All Some status → status ≡ Ok → (tree : PlainTree) × Accepts program tree × All (image_bytes tree) × KeepsItsPromise (set_of tree) unit_costs
 kept program target All Some status answers e =
     let ok = subst (Answers program target All Some) e answers in
     let compiles = ok.1 in

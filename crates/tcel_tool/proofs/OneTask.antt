@@ -1,5 +1,5 @@
 -- What the demand of one task says of its plan.
-use Rattle.std.proofs.Common.{◌≡◌, ℕ, ◌<◌, ◌≤◌, List, [], ◌∷◌, ap, ◌∙◌, subst, arith}
+use Rattle.std.proofs.Common.{◌≡◌, refl, ℕ, ◌<◌, ◌≤◌, List, [], ◌∷◌, ap, ◌∙◌, subst, arith}
 use Rattle.tcel_num.specs.Plan.{Plan}
 use Rattle.tcel_core.specs.Language.{Task}
 use Rattle.tcel_image.specs.declared.costs.Costs.{Costs}
@@ -25,7 +25,7 @@ only_plan task costs [] h = absurd h
 only_plan task costs (plan ∷ plans) h = record { plan = plan; whole = h.0; alone = ap (λ (others : List Plan). plan ∷ others) h.1 }
 
 -- a plain program that can be written, and whose demand fits its hyperperiod, keeps its promise
-pub promise : (tree : PlainTree) (costs : Costs) (plans : List Plan) (hyper : ℕ) → IsPlain tree → IsWritable tree → CostsInRange costs → AreWholePlans (set_of tree) costs plans → IsHyperperiod plans hyper → demand plans hyper ≤ hyper → KeepsItsPromise tree costs
+pub promise : (tree : PlainTree) (costs : Costs) (plans : List Plan) (hyper : ℕ) → IsPlain tree → IsWritable tree → CostsInRange costs → AreWholePlans (set_of tree) costs plans → IsHyperperiod plans hyper → demand plans hyper ≤ hyper → KeepsItsPromise (set_of tree) costs
 promise tree costs plans hyper plain writable range whole period fits =
     let only = only_plan (task_of tree) costs plans whole in
     let plan = only.plan in
@@ -36,7 +36,7 @@ promise tree costs plans hyper plain writable range whole period fits =
     record {
       spelled = image_in_range tree costs plain writable range;
       valid = plain_image_valid tree costs plain;
-      plan = plan;
-      whole = only.whole;
+      plans = plan ∷ [];
+      whole = (only.whole, refl);
       runs = plain_programs_meet tree costs plan plain range only.whole (omega arith);
     }

@@ -22,8 +22,8 @@ use Rattle.tcel_core.specs.Meets.{Meets}
 use Rattle.tcel_core.specs.Scope.{ActIsUntimed, ActFits, Fits, IsUntimed, IsScalar, IsSound}
 use Rattle.tcel_image.specs.declared.costs.Costs.{Costs}
 use Rattle.tcel_image.specs.Costs.{CostsInRange}
-use Rattle.tcel_image.specs.Machine.{trace}
-use Rattle.tcel_tool.specs.Headline.{CompiledProgramsMeetTheirSource}
+use Rattle.tcel_image.specs.Machine.{Streams, trace}
+use Rattle.tcel_tool.specs.Headline.{CompiledProgramsMeetTheirSource, HasStreams}
 use Rattle.tcel_tool.specs.Layout.{image_of}
 use Rattle.tcel_tool.specs.PlainTree.{IsPlain, StmtIsPlain, ExprIsPlain, OperandIsPlain, names_of, variable_names, index_of, var_of, vars_of, operand_of, expr_of, act_of, block_from, task_of, set_of}
 use Rattle.tcel_tool.specs.WholePlan.{IsWholePlan}
@@ -35,7 +35,7 @@ use Rattle.tcel_tool.specs.declared.plain_tree.PlainExpr.{PlainExpr}
 use Rattle.tcel_tool.specs.declared.plain_tree.PlainExpr.TheVariants as exprs
 use Rattle.tcel_tool.specs.declared.plain_tree.Operand.{Operand}
 use Rattle.tcel_tool.specs.declared.plain_tree.Operand.TheVariants as operands
-use Rattle.std.specs.List.{AllByRecursion}
+use Rattle.std.specs.List.{AllByRecursion, AllZip}
 use Rattle.tcel_num.proofs.ServedAlone.{served_whole}
 use Rattle.tcel_tool.proofs.BoundEvents.{EachPoint, no_points, untimed_loops}
 use Rattle.tcel_tool.proofs.WholeFrames.{Reaches}
@@ -118,6 +118,13 @@ block_untimed id decls (s ∷ ss) = (act_untimed decls s, block_untimed (id + 1)
 
 -- ---- the program and its image
 
+-- what is so of the streams of the only task
+only_streams : (tree : PlainTree) (streams : Streams) → AllZip HasStreams (set_of tree) streams → (P : Streams → Type 0) →
+    ((its : List (List ℤ)) → length its ≡ length (task_of tree).inputs → P (its ∷ [])) → P streams
+only_streams tree [] each P h = absurd each
+only_streams tree (its ∷ []) each P h = h its each.0
+only_streams tree (its ∷ (others ∷ more)) each P h = absurd each.1
+
 module _ (tree : PlainTree) (costs : Costs) (plan : Plan) (plain : IsPlain tree) (ranges : CostsInRange costs) (whole : IsWholePlan (task_of tree) costs plan) (fits : plan.total ≤ plan.period)
     (streams : List (List ℤ)) (long : length streams ≡ length (task_of tree).inputs) where
   abbrev service : ℕ → ℕ
@@ -153,4 +160,6 @@ module _ (tree : PlainTree) (costs : Costs) (plan : Plan) (plain : IsPlain tree)
   program_meets ticks = set_meets costs ranges (plan ∷ []) (streams ∷ []) (set_of tree) (serves, tt) ticks
 
 pub plain_programs_meet : CompiledProgramsMeetTheirSource
-plain_programs_meet = λ tree costs plan plain ranges whole fits streams ticks long. program_meets tree costs plan plain ranges whole fits streams long ticks
+plain_programs_meet = λ tree costs plan plain ranges whole fits streams ticks each.
+    only_streams tree streams each (λ s. Meets (set_of tree) (plan ∷ []) s ticks (trace (image_of (set_of tree) costs) s ticks))
+    (λ its long. program_meets tree costs plan plain ranges whole fits its long ticks)

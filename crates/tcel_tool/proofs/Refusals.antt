@@ -25,6 +25,7 @@ refused_program program target told old new (statuses.Limit (limits.Bytes w l)) 
       added = load_of program program_limit TooLong ∷ [];
       loads = inl (h.0, h.1, refl);
       adds = h.2;
+      order = λ two. absurd (omega arith);
       cause = inl (h.0, subst (λ n. IfSome (told program) (λ bytes. n < length bytes)) (sym h.1) h.3);
     }
 refused_program program target told old new (statuses.Limit (limits.Count kind value)) h = absurd h
@@ -37,10 +38,11 @@ refused_program program target told old new (statuses.ReadFault w) h =
       added = load_of program program_limit Fault ∷ [];
       loads = (program_limit, inl (h.0, refl, refl));
       adds = h.1;
+      order = λ two. absurd (omega arith);
       cause = tt;
     }
 refused_program program target told old new statuses.WriteFault h = absurd h
-refused_program program target told old new statuses.NoMemory h = record { added = []; loads = inl refl; adds = h; cause = tt }
+refused_program program target told old new statuses.NoMemory h = record { added = []; loads = inl refl; adds = h; order = λ two. absurd (omega arith); cause = tt }
 refused_program program target told old new (statuses.Beyond w) h = absurd h
 
 -- the loaded program isn't accepted
@@ -50,15 +52,15 @@ refused_text program target told old new status h adds =
     elim h [
       | inl e ↦
           subst (Refuses program target told old new) (sym e)
-          (let r : Refuses program target told old new statuses.NoMemory = record { added = program_load program Done ∷ []; loads = inr (inl refl); adds = adds; cause = tt } in r)
+          (let r : Refuses program target told old new statuses.NoMemory = record { added = program_load program Done ∷ []; loads = inr (inl refl); adds = adds; order = λ two. absurd (omega arith); cause = tt } in r)
       | inr e ↦
           subst (Refuses program target told old new) (sym e)
           (let r : Refuses program target told old new (statuses.Beyond 1) =
-          record { added = program_load program Done ∷ []; loads = (program_limit, inl (refl, refl, refl)); adds = adds; cause = inl refl } in r)
+          record { added = program_load program Done ∷ []; loads = (program_limit, inl (refl, refl, refl)); adds = adds; order = λ two. absurd (omega arith); cause = inl refl } in r)
     ]
 
-two : (program target : List ℕ) (a b : Load) (old middle new : List Load) → AddsLoads (a ∷ []) old middle → AddsLoads (b ∷ []) middle new → AddsLoads (a ∷ b ∷ []) old new
-two program target a b old middle new first second = second ∙ ap (λ l. l ++ b ∷ []) first ∙ append_assoc old (a ∷ []) (b ∷ [])
+loads_in_turn : (a b : Load) (old middle new : List Load) → AddsLoads (a ∷ []) old middle → AddsLoads (b ∷ []) middle new → AddsLoads (a ∷ b ∷ []) old new
+loads_in_turn a b old middle new first second = second ∙ ap (λ l. l ++ b ∷ []) first ∙ append_assoc old (a ∷ []) (b ∷ [])
 
 -- the target is refused behind an accepted program
 pub refused_target : (program target : List ℕ) (told later : List ℕ → Option (List ℕ)) (old middle new : List Load) (tree : PlainTree) (status : Status)
@@ -70,7 +72,8 @@ refused_target program target told later old middle new tree (statuses.Limit (li
     record {
       added = program_load program Done ∷ target_load target TooLong ∷ [];
       loads = inr (h.0, h.1, refl);
-      adds = two program target (program_load program Done) (target_load target TooLong) old middle new first h.2;
+      adds = loads_in_turn (program_load program Done) (target_load target TooLong) old middle new first h.2;
+      order = λ two. (tree, accepts);
       cause = inr (h.0, subst (λ t. IfSome t (λ bytes. l < length bytes)) (same target) (subst (λ n. IfSome (later target) (λ bytes. n < length bytes)) (sym h.1) h.3));
     }
 refused_target program target told later old middle new tree (statuses.Limit (limits.Count kind value)) first same accepts h = absurd h
@@ -82,7 +85,8 @@ refused_target program target told later old middle new tree (statuses.ReadFault
     record {
       added = program_load program Done ∷ target_load target Fault ∷ [];
       loads = (target_limit, inr (h.0, refl, refl));
-      adds = two program target (program_load program Done) (target_load target Fault) old middle new first h.1;
+      adds = loads_in_turn (program_load program Done) (target_load target Fault) old middle new first h.1;
+      order = λ two. (tree, accepts);
       cause = tt;
     }
 refused_target program target told later old middle new tree statuses.WriteFault first same accepts h = absurd h
@@ -91,13 +95,15 @@ refused_target program target told later old middle new tree statuses.NoMemory f
       added = program_load program Done ∷ [];
       loads = inr (inl refl);
       adds = h ∙ simp append-nil first;
+      order = λ two. absurd (omega arith);
       cause = tt;
     }
 refused_target program target told later old middle new tree (statuses.Beyond w) first same accepts h =
     record {
       added = both_loads program target;
       loads = (target_limit, inr (h.0, refl, refl));
-      adds = two program target (program_load program Done) (target_load target Done) old middle new first h.1;
+      adds = loads_in_turn (program_load program Done) (target_load target Done) old middle new first h.1;
+      order = λ two. (tree, accepts);
       cause =
           inr (
             h.0,
@@ -107,18 +113,18 @@ refused_target program target told later old middle new tree (statuses.Beyond w)
 
 -- both files were loaded, and what follows refuses
 pub refused_later : (program target : List ℕ) (told : List ℕ → Option (List ℕ)) (old middle new : List Load) (tree : PlainTree) (cycles hyper : ℕ) (status : Status)
-    → AddsLoads (program_load program Done ∷ []) old middle → AddsLoads (target_load target Done ∷ []) middle new
+    → AddsLoads (program_load program Done ∷ []) old middle → AddsLoads (target_load target Done ∷ []) middle new → Accepts (told program) tree
     → ((status ≡ statuses.Overload cycles hyper) × Overloads (told program) (told target) tree cycles hyper) ⊎ (status ≡ statuses.NoMemory)
     → Refuses program target told old new status
-refused_later program target told old middle new tree cycles hyper status first second h =
-    let adds = two program target (program_load program Done) (target_load target Done) old middle new first second in
+refused_later program target told old middle new tree cycles hyper status first second accepts h =
+    let adds = loads_in_turn (program_load program Done) (target_load target Done) old middle new first second in
     elim h [
       | inl e ↦
           subst (Refuses program target told old new) (sym e.0)
-          (let r : Refuses program target told old new (statuses.Overload cycles hyper) = record { added = both_loads program target; loads = refl; adds = adds; cause = (tree, e.1) } in r)
+          (let r : Refuses program target told old new (statuses.Overload cycles hyper) = record { added = both_loads program target; loads = refl; adds = adds; order = λ two. (tree, accepts); cause = (tree, e.1) } in r)
       | inr e ↦
           subst (Refuses program target told old new) (sym e)
-          (let r : Refuses program target told old new statuses.NoMemory = record { added = both_loads program target; loads = inr (inr refl); adds = adds; cause = tt } in r)
+          (let r : Refuses program target told old new statuses.NoMemory = record { added = both_loads program target; loads = inr (inr refl); adds = adds; order = λ two. (tree, accepts); cause = tt } in r)
     ]
 
 -- the demand of one frame in its own period
@@ -150,7 +156,7 @@ pub refused_late : (program target : List ℕ) (told : List ℕ → Option (List
     → AddsLoads (program_load program Done ∷ []) old middle → AddsLoads (target_load target Done ∷ []) middle new → Accepts (told program) tree
     → IfSome (told target) (λ bytes. bytes ≡ unit_target) → IsLateRefusal tree status → Refuses program target told old new status
 refused_late program target told old middle new tree status first second accepts unit h =
-    refused_later program target told old middle new tree (body_cycles tree.body + 2) tree.period status first second
+    refused_later program target told old middle new tree (body_cycles tree.body + 2) tree.period status first second accepts
     (elim h [
       | inl e ↦ inl (e.0, record { accepts = accepts; unit = unit; demands = demands_of tree accepts.plain; above = e.1 })
       | inr e ↦ inr e

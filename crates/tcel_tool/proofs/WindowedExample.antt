@@ -11,7 +11,7 @@ use Rattle.tcel_num.proofs.Served.{AreWhole}
 use Rattle.tcel_core.specs.Scope.{TaskFits}
 use Rattle.tcel_image.specs.Examples.{unit_costs}
 use Rattle.tcel_tool.specs.Examples.{passing_body, windowed_task, windowed_plan}
-use Rattle.tcel_tool.specs.Headline.{SetRunsMeet}
+use Rattle.tcel_tool.specs.Headline.{RunsMeet}
 use Rattle.tcel_tool.specs.Walks.{Counts, Walks, Shows, IsTotal, IsFirst, IsFirstCount, IsLastCount}
 use Rattle.tcel_tool.specs.WholePlan.{AreWholePlans, AreBlockPoints, IsWholePlan}
 use Rattle.tcel_tool.proofs.NeverLateSets.{whole_sets_meet}
@@ -144,7 +144,7 @@ in_time (suc k) at point late = let e = late.3.of_task in cc
 pub windowed-in_time : IsNeverLate (windowed_plan ∷ [])
 windowed-in_time = λ place late. in_time place.task place.frame place.point late
 
-pub windowed-meets : SetRunsMeet (windowed_task ∷ []) unit_costs (windowed_plan ∷ [])
+pub windowed-meets : RunsMeet (windowed_task ∷ []) unit_costs (windowed_plan ∷ [])
 windowed-meets =
     let all = own_demand windowed_plan (lit< tt) in
     whole_sets_meet (windowed_task ∷ []) unit_costs (windowed_plan ∷ []) 10 windowed-fits unit_range windowed-plan (own_hyperperiod windowed_plan (lit< tt)) (omega arith) windowed-in_time

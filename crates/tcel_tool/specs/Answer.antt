@@ -1,19 +1,17 @@
--- What a call of the tool answers, and what it does to its files and streams.
+-- What a call of `compile` answers, and what it does to its files and streams.
 use Rattle.std.specs.Prelude.{◌≡◌, ◌≢◌, ℕ, ◌+◌, ◌<◌, ◌≤◌, ◌⊎◌, Bool, true, false, List, [], ◌∷◌, Option, IfSome, length, codes}
 use Rattle.tcel_num.specs.Plan.{Plan}
 use Rattle.tcel_io.specs.Load.{Load, AddsLoads}
 use Rattle.tcel_io.specs.declared.loaded.Outcome.{Outcome}
 use Rattle.tcel_io.specs.declared.loaded.Outcome.TheVariants.{Done, Fault, TooLong}
 use Rattle.tcel_image.specs.Examples.{unit_costs}
-use Rattle.tcel_image.specs.Spelling.{spelling}
 use Rattle.tcel_tool.specs.declared.plain_tree.PlainTree.{PlainTree}
 use Rattle.tcel_tool.specs.declared.status.Status.{Status}
 use Rattle.tcel_tool.specs.declared.status.Status.TheVariants as statuses
 use Rattle.tcel_tool.specs.declared.status.LimitFault.TheVariants as limits
 use Rattle.tcel_tool.specs.CanonicalText.{text_of}
-use Rattle.tcel_tool.specs.FaultLine.{word_at}
 use Rattle.tcel_num.specs.Hyperperiod.{IsHyperperiod, demand}
-use Rattle.tcel_tool.specs.Layout.{image_of}
+use Rattle.tcel_tool.specs.Layout.{written}
 use Rattle.tcel_tool.specs.PlainTree.{IsPlain, IsWritable, set_of}
 use Rattle.tcel_tool.specs.StraightPlan.{body_cycles}
 use Rattle.tcel_tool.specs.WholePlan.{AreWholePlans}
@@ -33,11 +31,15 @@ program_limit = 1048576
 abbrev pub target_limit : ℕ
 target_limit = 65536
 
+-- a load of one file
+abbrev pub load_of : List ℕ → ℕ → Outcome → Load
+load_of name limit outcome = record { name = name; limit = limit; outcome = outcome }
+
 abbrev pub program_load : List ℕ → Outcome → Load
-program_load program outcome = record { name = program; limit = program_limit; outcome = outcome }
+program_load program outcome = load_of program program_limit outcome
 
 abbrev pub target_load : List ℕ → Outcome → Load
-target_load target outcome = record { name = target; limit = target_limit; outcome = outcome }
+target_load target outcome = load_of target target_limit outcome
 
 -- both files were loaded
 abbrev pub both_loads : List ℕ → List ℕ → List Load
@@ -65,10 +67,9 @@ AreLoads program target (statuses.Flaw flaw) loads = ⊥
 AreLoads program target (statuses.Script fail) loads = ⊥
 AreLoads program target (statuses.Beyond word) loads = (limit : ℕ) × EndWith Done program target word limit loads
 
--- the loads that a call adds: none where the words have no form of a command
-abbrev pub AreLoadsOf : List (List ℕ) → Status → List Load → Type 0
-AreLoadsOf words statuses.Words loads = loads ≡ []
-AreLoadsOf words status loads = AreLoads (word_at words 1) (word_at words 2) status loads
+-- a second file is loaded only where this is so
+abbrev pub SecondAfter : Type 0 → List Load → Type 0
+SecondAfter Accepted loads = 2 ≤ length loads → Accepted
 
 -- ---- the answer
 
@@ -83,6 +84,10 @@ pub record Accepts (program : Option (List ℕ)) (tree : PlainTree) : Type 0 whe
   pub writable : IsWritable tree
   pub text : IfSome program (λ bytes. bytes ≡ text_of tree)
 
+-- they are the canonical text of some such tree
+abbrev pub AcceptsSome : Option (List ℕ) → Type 0
+AcceptsSome program = (tree : PlainTree) × Accepts program tree
+
 -- the frames of a hyperperiod ask for so many cycles
 pub record Demands (tree : PlainTree) (cycles hyper : ℕ) : Type 0 where
   pub plans : List Plan
@@ -92,7 +97,7 @@ pub record Demands (tree : PlainTree) (cycles hyper : ℕ) : Type 0 where
 
 -- the bytes of the image of the tree's set
 abbrev pub image_bytes : PlainTree → List ℕ
-image_bytes tree = spelling (image_of (set_of tree) unit_costs)
+image_bytes tree = written (set_of tree) unit_costs
 
 -- the program is accepted, the target is that of unit costs, and the demand fits the hyperperiod
 pub record Compiles (program target : Option (List ℕ)) (tree : PlainTree) : Type 0 where
@@ -136,11 +141,8 @@ pub record Refuses (program target : List ℕ) (told : List ℕ → Option (List
   pub added : List Load
   pub loads : AreLoads program target status added
   pub adds : AddsLoads added old new
+  pub order : SecondAfter (AcceptsSome (told program)) added
   pub cause : Answers (told program) (told target) (λ text. ⊥) (λ text. ⊥) status
-
--- a load of one file
-abbrev pub load_of : List ℕ → ℕ → Outcome → Load
-load_of name limit outcome = record { name = name; limit = limit; outcome = outcome }
 
 -- one load gives no bytes, with this status of its word
 abbrev pub IsLoadRefusal : List ℕ → ℕ → ℕ → (List ℕ → Option (List ℕ)) → List Load → List Load → Status → Type 0

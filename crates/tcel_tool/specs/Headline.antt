@@ -17,38 +17,31 @@ use Rattle.tcel_tool.specs.PlainTree.{IsPlain, task_of, set_of}
 use Rattle.tcel_tool.specs.WholePlan.{IsWholePlan, AreWholePlans}
 use Rattle.tcel_tool.specs.declared.plain_tree.PlainTree.{PlainTree}
 
--- over any streams of its inputs and for any number of ticks, the trace of a program's image meets the program, by its plan
-abbrev pub RunsMeet : PlainTree → Costs → Plan → Type 0
-RunsMeet tree costs plan =
-    (streams : List (List ℤ)) (ticks : ℕ) → length streams ≡ length (task_of tree).inputs →
-    Meets (set_of tree) (plan ∷ []) (streams ∷ []) ticks (trace (image_of (set_of tree) costs) (streams ∷ []) ticks)
-
--- this is so of every plain program whose frames take no longer than its period
-abbrev pub CompiledProgramsMeetTheirSource : Type 0
-CompiledProgramsMeetTheirSource =
-    (tree : PlainTree) (costs : Costs) (plan : Plan) → IsPlain tree → CostsInRange costs → IsWholePlan (task_of tree) costs plan →
-    plan.total ≤ plan.period → RunsMeet tree costs plan
-
--- a program's image keeps its promise: it has a spelling and is valid, and by the whole plan of the program's task, every run meets the program
-pub record KeepsItsPromise (tree : PlainTree) (costs : Costs) : Type 0 where
-  pub spelled : InRange (image_of (set_of tree) costs)
-  pub valid : IsValid (image_of (set_of tree) costs)
-  pub plan : Plan
-  pub whole : IsWholePlan (task_of tree) costs plan
-  pub runs : RunsMeet tree costs plan
-
 -- a stream for each input of a task
 abbrev pub HasStreams : Task → List (List ℤ) → Type 0
 HasStreams task streams = length streams ≡ length task.inputs
 
 -- over any streams of its inputs and for any number of ticks, the trace of a set's image meets the set, by these plans
-abbrev pub SetRunsMeet : List Task → Costs → List Plan → Type 0
-SetRunsMeet set costs plans =
-    (streams : Streams) (ticks : ℕ) → AllZip HasStreams set streams →
-    Meets set plans streams ticks (trace (image_of set costs) streams ticks)
+abbrev pub RunsMeet : List Task → Costs → List Plan → Type 0
+RunsMeet set costs plans =
+    (streams : Streams) (ticks : ℕ) → AllZip HasStreams set streams → Meets set plans streams ticks (trace (image_of set costs) streams ticks)
 
--- this is so of every set of which no task is sliced, where its demand fits and no point of its whole plans is ever late
+-- a set's image keeps its promise: it has a spelling and is valid, and by the whole plans of the set's tasks, every run meets the set
+pub record KeepsItsPromise (set : List Task) (costs : Costs) : Type 0 where
+  pub spelled : InRange (image_of set costs)
+  pub valid : IsValid (image_of set costs)
+  pub plans : List Plan
+  pub whole : AreWholePlans set costs plans
+  pub runs : RunsMeet set costs plans
+
+-- the runs of every plain program whose frames take no longer than its period meet it
+abbrev pub CompiledProgramsMeetTheirSource : Type 0
+CompiledProgramsMeetTheirSource =
+    (tree : PlainTree) (costs : Costs) (plan : Plan) → IsPlain tree → CostsInRange costs → IsWholePlan (task_of tree) costs plan →
+    plan.total ≤ plan.period → RunsMeet (set_of tree) costs (plan ∷ [])
+
+-- so do those of every set of which no task is sliced, where its demand fits and no point of its whole plans is ever late
 abbrev pub WholeSetsMeetTheirSource : Type 0
 WholeSetsMeetTheirSource =
     (set : List Task) (costs : Costs) (plans : List Plan) (hyper : ℕ) → All TaskFits set → CostsInRange costs → AreWholePlans set costs plans →
-    IsHyperperiod plans hyper → demand plans hyper ≤ hyper → IsNeverLate plans → SetRunsMeet set costs plans
+    IsHyperperiod plans hyper → demand plans hyper ≤ hyper → IsNeverLate plans → RunsMeet set costs plans

@@ -1,5 +1,5 @@
 -- The image of a set of which no task is sliced.
-use Rattle.std.specs.Prelude.{◌+◌, false, List, [], map, filter, unwrap_or}
+use Rattle.std.specs.Prelude.{ℕ, ◌+◌, false, List, [], map, filter, unwrap_or}
 use Rattle.tcel_core.specs.declared.var.Var.{Var}
 use Rattle.tcel_core.specs.declared.var.VarKind.{VarKind}
 use Rattle.tcel_core.specs.Cells.{all_words, words_of}
@@ -12,6 +12,7 @@ use Rattle.tcel_image.specs.declared.image.ImageState.{ImageState}
 use Rattle.tcel_image.specs.declared.image.StateKind.{StateKind}
 use Rattle.tcel_image.specs.declared.image.StateKind.TheVariants as kinds
 use Rattle.tcel_core.specs.Contents.{loops}
+use Rattle.tcel_image.specs.Spelling.{spelling}
 use Rattle.tcel_tool.specs.Code.{whole_code}
 
 -- how a variable is shown
@@ -45,3 +46,7 @@ image_task task =
 -- the image of these tasks, in their order, for a processor with these costs
 abbrev pub image_of : List Task → Costs → Image
 image_of set costs = record { costs = costs; tasks = map image_task set }
+
+-- the bytes that the compiler writes for them
+abbrev pub written : List Task → Costs → List ℕ
+written set costs = spelling (image_of set costs)

@@ -17,7 +17,7 @@ use Rattle.tcel_verify.specs.Ports.{port_rows}
 use Rattle.tcel_tool.specs.declared.status.Status.{Status}
 use Rattle.tcel_tool.specs.declared.status.Status.TheVariants as statuses
 use Rattle.tcel_tool.specs.declared.status.LimitFault.TheVariants as limits
-use Rattle.tcel_tool.specs.Answer.{load_of, IsCompile, IsLoadRefusal}
+use Rattle.tcel_tool.specs.Answer.{load_of, IsCompile, IsLoadRefusal, SecondAfter}
 use Rattle.tcel_tool.specs.FaultLine.{word_at}
 
 -- ---- the words
@@ -150,4 +150,5 @@ pub record RefusesRun (image script : List ℕ) (ticks : ℕ) (told : List ℕ �
   pub added : List Load
   pub loads : AreRunLoads image script status added
   pub adds : AddsLoads added old new
+  pub order : SecondAfter (LoadedFirst (told image)) added
   pub cause : RunAnswers (told image) (told script) ticks (λ lines. ⊥) (λ lines. ⊥) status

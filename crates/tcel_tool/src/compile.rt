@@ -5,7 +5,7 @@ ghost use Rattle.tcel_io.specs.Reach.{ReachesWithin};
 ghost use Rattle.tcel_io.specs.Shelf.{TellsTheSame};
 ghost use Rattle.tcel_io.specs.Taken.{Takes, TakesPrefix};
 ghost use Rattle.tcel_io.specs.declared.loaded.Outcome.TheVariants.{Done};
-ghost use Rattle.tcel_tool.specs.Answer.{Accepts, Answers, AreLoads, Compiles, IsLateRefusal, IsOverload, Refuses, both_loads, image_bytes, load_of, program_load, target_load, unit_target, writes, IsLoadRefusal, RefusesTarget};
+ghost use Rattle.tcel_tool.specs.Answer.{Accepts, AcceptsSome, Answers, AreLoads, Compiles, IsLateRefusal, IsOverload, Refuses, both_loads, image_bytes, load_of, program_load, target_load, unit_target, writes, IsLoadRefusal, RefusesTarget, SecondAfter};
 ghost use Rattle.tcel_tool.specs.PlainTree.{IsPlain, IsWritable};
 ghost use Rattle.tcel_tool.specs.StraightPlan.{body_cycles};
 ghost use Rattle.tcel_tool.specs.declared.plain_tree.PlainTree.{PlainTree};
@@ -40,7 +40,8 @@ pub(crate) fn compile<H: Shelf, K: Sink>(
     shelf: &mut H,
     out: &mut K,
 ) -> Status
-    ensures loads { (added : List Load) × AreLoads program.now target.now result added × AddsLoads added (H.loads shelf.old) (H.loads shelf.new) }
+    ensures loads { (added : List Load) × AreLoads program.now target.now result added
+        × AddsLoads added (H.loads shelf.old) (H.loads shelf.new) × SecondAfter (AcceptsSome (H.told shelf.old program.now)) added }
     ensures answer { Answers (H.told shelf.old program.now) (H.told shelf.old target.now)
         (λ text. Takes text (K.taken out.old) (K.taken out.new))
         (λ text. TakesPrefix text (K.taken out.old) (K.taken out.new)

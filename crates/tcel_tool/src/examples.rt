@@ -4,7 +4,7 @@ ghost use Rattle.tcel_core.specs.Scope.{TaskFits};
 ghost use Rattle.tcel_image.specs.Examples.{echo, unit_costs};
 ghost use Rattle.tcel_tool.specs.CanonicalText.{text_of};
 ghost use Rattle.tcel_tool.specs.Examples.{echo_tree, branching_vars, branching_body, windowed_task, windowed_plan};
-ghost use Rattle.tcel_tool.specs.Headline.{SetRunsMeet};
+ghost use Rattle.tcel_tool.specs.Headline.{RunsMeet};
 ghost use Rattle.tcel_tool.specs.Layout.{image_of};
 ghost use Rattle.tcel_tool.specs.PlainTree.{set_of, IsPlain};
 ghost use Rattle.tcel_tool.specs.Walks.{Walks, IsTotal};
@@ -30,5 +30,5 @@ pub fn window_examples()
     ensures fits { All TaskFits (windowed_task ∷ []) }
     ensures plan { AreWholePlans (windowed_task ∷ []) unit_costs (windowed_plan ∷ []) }
     ensures in_time { IsNeverLate (windowed_plan ∷ []) }
-    ensures meets { SetRunsMeet (windowed_task ∷ []) unit_costs (windowed_plan ∷ []) }
+    ensures meets { RunsMeet (windowed_task ∷ []) unit_costs (windowed_plan ∷ []) }
 {}

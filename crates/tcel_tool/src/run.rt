@@ -13,9 +13,9 @@ ghost use Rattle.tcel_image.specs.Spelling.{InRange, spelling};
 ghost use Rattle.tcel_image.specs.declared.image.Image.{Image};
 ghost use Rattle.tcel_machine.specs.Run.{loaded, after_tick};
 ghost use Rattle.tcel_script.specs.Script.{script_of};
-ghost use Rattle.tcel_tool.specs.Answer.{writes, load_of};
+ghost use Rattle.tcel_tool.specs.Answer.{writes, SecondAfter};
 ghost use Rattle.tcel_tool.specs.Lines.{lines, tick_lines};
-ghost use Rattle.tcel_tool.specs.RunAnswer.{AreRunLoads, IsImageIn, RefusesBytes, RefusesImage, RefusesLines, RefusesRun, RefusesScript, RunAnswers, Runs, both_run_loads, most_ticks, run_load};
+ghost use Rattle.tcel_tool.specs.RunAnswer.{AreRunLoads, IsImageIn, LoadedFirst, RefusesBytes, RefusesImage, RefusesLines, RefusesRun, RefusesScript, RunAnswers, Runs, both_run_loads, most_ticks, run_load};
 ghost use Rattle.tcel_trace.specs.Room.{HasRoom};
 ghost use Rattle.tcel_verify.specs.Ports.{port_rows};
 
@@ -43,7 +43,8 @@ pub(crate) fn run<H: Shelf, K: Sink>(
     shelf: &mut H,
     out: &mut K,
 ) -> Status
-    ensures loads { (added : List Load) × AreRunLoads image.now script.now result added × AddsLoads added (H.loads shelf.old) (H.loads shelf.new) }
+    ensures loads { (added : List Load) × AreRunLoads image.now script.now result added
+        × AddsLoads added (H.loads shelf.old) (H.loads shelf.new) × SecondAfter (LoadedFirst (H.told shelf.old image.now)) added }
     ensures answer { RunAnswers (H.told shelf.old image.now) (H.told shelf.old script.now) ticks
         (λ lines. Takes (concat lines) (K.taken out.old) (K.taken out.new)
         × AreTaken lines (seen (K.taken out.old) (K.faults out.old) (K.puts out.old)) (seen (K.taken out.new) (K.faults out.new) (K.puts out.new)))

@@ -6,10 +6,11 @@ ghost use Rattle.tcel_io.specs.Load.{AddsLoads, Load};
 ghost use Rattle.tcel_io.specs.Reach.{ReachesWithin};
 ghost use Rattle.tcel_io.specs.Taken.{Takes, TakesPrefix};
 ghost use Rattle.tcel_image.specs.Examples.{unit_costs};
-ghost use Rattle.tcel_tool.specs.Answer.{Answers, Accepts, AreLoadsOf, IsCompile, image_bytes, writes};
+ghost use Rattle.tcel_tool.specs.Answer.{Answers, Accepts, AcceptsSome, AreLoads, IsCompile, SecondAfter, image_bytes, writes};
 ghost use Rattle.tcel_tool.specs.FaultLine.{fault_line, fault_pieces, word_at};
 ghost use Rattle.tcel_tool.specs.Headline.{KeepsItsPromise};
-ghost use Rattle.tcel_tool.specs.RunAnswer.{AreRunLoads, HaveNoForm, IsRun, RunAnswers};
+ghost use Rattle.tcel_tool.specs.PlainTree.{set_of};
+ghost use Rattle.tcel_tool.specs.RunAnswer.{AreRunLoads, HaveNoForm, IsRun, LoadedFirst, RunAnswers};
 ghost use Rattle.tcel_tool.specs.declared.plain_tree.PlainTree.{PlainTree};
 
 use crate::compile::compile;
@@ -29,8 +30,11 @@ pub fn tcel<H: Shelf, K: Sink>(
     err: &mut K,
 ) -> Status
     ensures words { (result ≡ Status.Words) ↔ HaveNoForm (map string_bytes words.now) }
-    ensures loads { IsCompile (map string_bytes words.now) → (added : List Load) × AreLoadsOf (map string_bytes words.now) result added
-        × AddsLoads added (H.loads shelf.old) (H.loads shelf.new) }
+    ensures no_loads { result ≡ Status.Words → H.loads shelf.new ≡ H.loads shelf.old }
+
+    // The command `compile`.
+    ensures loads { IsCompile (map string_bytes words.now) → (added : List Load) × AreLoads (word_at (map string_bytes words.now) 1) (word_at (map string_bytes words.now) 2) result added
+        × AddsLoads added (H.loads shelf.old) (H.loads shelf.new) × SecondAfter (AcceptsSome (H.told shelf.old (word_at (map string_bytes words.now) 1))) added }
     ensures answer { let texts = map string_bytes words.now in IsCompile texts →
         Answers (H.told shelf.old (word_at texts 1)) (H.told shelf.old (word_at texts 2))
         (λ text. Takes text (K.taken out.old) (K.taken out.new))
@@ -39,7 +43,8 @@ pub fn tcel<H: Shelf, K: Sink>(
 
     // The command `run`.
     ensures run_loads { let texts = map string_bytes words.now in (ticks : ℕ) → IsRun texts ticks
-        → (added : List Load) × AreRunLoads (word_at texts 1) (word_at texts 2) result added × AddsLoads added (H.loads shelf.old) (H.loads shelf.new) }
+        → (added : List Load) × AreRunLoads (word_at texts 1) (word_at texts 2) result added
+        × AddsLoads added (H.loads shelf.old) (H.loads shelf.new) × SecondAfter (LoadedFirst (H.told shelf.old (word_at texts 1))) added }
     ensures run_answer { let texts = map string_bytes words.now in (ticks : ℕ) → IsRun texts ticks
         → RunAnswers (H.told shelf.old (word_at texts 1)) (H.told shelf.old (word_at texts 2)) ticks
         (λ lines. Takes (concat lines) (K.taken out.old) (K.taken out.new)
@@ -47,11 +52,10 @@ pub fn tcel<H: Shelf, K: Sink>(
         (λ lines. TakesPrefix (concat lines) (K.taken out.old) (K.taken out.new)
         × ReachesWithin (concat lines) (K.taken out.old) (K.reach out.old) (K.reach out.new)
         × AreCutOff lines (seen (K.taken out.old) (K.faults out.old) (K.puts out.old)) (seen (K.taken out.new) (K.faults out.new) (K.puts out.new))) result }
-    ensures no_loads { result ≡ Status.Words → H.loads shelf.new ≡ H.loads shelf.old }
 
-    // After Ok out took the image of the program's set, which has a spelling, and every run of this image meets the program.
+    // After Ok of `compile`, out took the image of the program's set, which has a spelling and is valid, and every run of it meets the set.
     ensures headline { IsCompile (map string_bytes words.now) → result ≡ Status.Ok → (tree : PlainTree) × Accepts (H.told shelf.old (word_at (map string_bytes words.now) 1)) tree
-        × Takes (image_bytes tree) (K.taken out.old) (K.taken out.new) × KeepsItsPromise tree unit_costs }
+        × Takes (image_bytes tree) (K.taken out.old) (K.taken out.new) × KeepsItsPromise (set_of tree) unit_costs }
 
     // What out took, and how often.
     ensures untouched { IsTrue (writes result) ⊎ (out.new ≡ out.old) }
@@ -72,15 +76,16 @@ pub fn tcel<H: Shelf, K: Sink>(
 
 fn answer<H: Shelf, K: Sink>(alloc: Global, words: &[String], shelf: &mut H, out: &mut K) -> Status
     ensures words { (result ≡ Status.Words) ↔ HaveNoForm (map string_bytes words.now) }
-    ensures loads { IsCompile (map string_bytes words.now) → (added : List Load) × AreLoadsOf (map string_bytes words.now) result added
-        × AddsLoads added (H.loads shelf.old) (H.loads shelf.new) }
+    ensures loads { IsCompile (map string_bytes words.now) → (added : List Load) × AreLoads (word_at (map string_bytes words.now) 1) (word_at (map string_bytes words.now) 2) result added
+        × AddsLoads added (H.loads shelf.old) (H.loads shelf.new) × SecondAfter (AcceptsSome (H.told shelf.old (word_at (map string_bytes words.now) 1))) added }
     ensures answer { let texts = map string_bytes words.now in IsCompile texts →
         Answers (H.told shelf.old (word_at texts 1)) (H.told shelf.old (word_at texts 2))
         (λ text. Takes text (K.taken out.old) (K.taken out.new))
         (λ text. TakesPrefix text (K.taken out.old) (K.taken out.new)
         × ReachesWithin text (K.taken out.old) (K.reach out.old) (K.reach out.new)) result }
     ensures run_loads { let texts = map string_bytes words.now in (ticks : ℕ) → IsRun texts ticks
-        → (added : List Load) × AreRunLoads (word_at texts 1) (word_at texts 2) result added × AddsLoads added (H.loads shelf.old) (H.loads shelf.new) }
+        → (added : List Load) × AreRunLoads (word_at texts 1) (word_at texts 2) result added
+        × AddsLoads added (H.loads shelf.old) (H.loads shelf.new) × SecondAfter (LoadedFirst (H.told shelf.old (word_at texts 1))) added }
     ensures run_answer { let texts = map string_bytes words.now in (ticks : ℕ) → IsRun texts ticks
         → RunAnswers (H.told shelf.old (word_at texts 1)) (H.told shelf.old (word_at texts 2)) ticks
         (λ lines. Takes (concat lines) (K.taken out.old) (K.taken out.new)
@@ -109,7 +114,8 @@ fn run_of_words<H: Shelf, K: Sink>(
 ) -> Status
     ensures words { (result ≡ Status.Words) ↔ ((ticks : ℕ) → IsRun (map string_bytes words.now) ticks → ⊥) }
     ensures run_loads { let texts = map string_bytes words.now in (ticks : ℕ) → IsRun texts ticks
-        → (added : List Load) × AreRunLoads (word_at texts 1) (word_at texts 2) result added × AddsLoads added (H.loads shelf.old) (H.loads shelf.new) }
+        → (added : List Load) × AreRunLoads (word_at texts 1) (word_at texts 2) result added
+        × AddsLoads added (H.loads shelf.old) (H.loads shelf.new) × SecondAfter (LoadedFirst (H.told shelf.old (word_at texts 1))) added }
     ensures run_answer { let texts = map string_bytes words.now in (ticks : ℕ) → IsRun texts ticks
         → RunAnswers (H.told shelf.old (word_at texts 1)) (H.told shelf.old (word_at texts 2)) ticks
         (λ lines. Takes (concat lines) (K.taken out.old) (K.taken out.new)

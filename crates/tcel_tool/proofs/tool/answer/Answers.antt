@@ -2,9 +2,9 @@ use Rattle.std.proofs.Common.{◌≡◌, ℕ, List, length, sym, ◌∙◌, subs
 use Rattle.std.specs.Prelude.{string_bytes, map}
 use Rattle.tcel_io.specs.Reach.{ReachesWithin}
 use Rattle.tcel_io.specs.Taken.{Takes, TakesPrefix}
-use Rattle.tcel_tool.specs.Answer.{Answers, AreLoads}
+use Rattle.tcel_tool.specs.Answer.{AcceptsSome, Answers, AreLoads, SecondAfter}
 use Rattle.tcel_tool.specs.FaultLine.{word_at}
-use Rattle.tcel_tool.proofs.CommandWords.{word_is, loads_of_words}
+use Rattle.tcel_tool.proofs.CommandWords.{word_is}
 use Rattle.tcel_tool.proofs.tool.answer.Goals as goal
 
 pub returns-then-is_compile-clause-loads : goal.returns-then-is_compile-clause-loads
@@ -16,12 +16,12 @@ returns-then-is_compile-clause-loads g c =
     let target : word_at texts 2 ≡ c.as_str-then-is_compile.result.now =
     word_is string_bytes c.args.words.now 2 c.index-words-2.result (omega arith) (sym c.index-words-2.is) ∙ sym c.as_str-then-is_compile.ensures.value in
     let done = c.compile.ensures.loads in
+    let told = g.H.Shelf.told c.args.shelf.now in
     λ _. (
       done.0,
-      loads_of_words texts c.compile.result done.0
-          (subst (λ p. AreLoads p (word_at texts 2) c.compile.result done.0) (sym program)
-          (subst (λ t. AreLoads c.as_str.result.now t c.compile.result done.0) (sym target) done.1)),
+      subst (λ p. AreLoads p (word_at texts 2) c.compile.result done.0) (sym program) (subst (λ t. AreLoads c.as_str.result.now t c.compile.result done.0) (sym target) done.1),
       done.2,
+      subst (λ p. SecondAfter (AcceptsSome (told p)) done.0) (sym program) done.3,
     )
 
 pub returns-then-is_compile-clause-answer : goal.returns-then-is_compile-clause-answer

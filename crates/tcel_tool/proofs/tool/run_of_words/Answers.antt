@@ -5,7 +5,8 @@ use Rattle.tcel_io.specs.InTurn.{AreTaken, AreCutOff, seen}
 use Rattle.tcel_io.specs.Reach.{ReachesWithin}
 use Rattle.tcel_io.specs.Taken.{Takes, TakesPrefix}
 use Rattle.tcel_tool.specs.FaultLine.{word_at}
-use Rattle.tcel_tool.specs.RunAnswer.{AreRunLoads, IsRun, RunAnswers}
+use Rattle.tcel_tool.specs.RunAnswer.{AreRunLoads, IsRun, LoadedFirst, RunAnswers}
+use Rattle.tcel_tool.specs.Answer.{SecondAfter}
 use Rattle.tcel_tool.proofs.CommandWords.{word_is}
 use Rattle.tcel_tool.proofs.RunWords.{of_none, of_this, of_no_other, not_words}
 use Rattle.tcel_tool.proofs.tool.run_of_words.Goals as goal
@@ -40,6 +41,7 @@ returns-clause-run_loads g c =
       subst (λ p. AreRunLoads p (word_at texts 2) c.run.result done.0) (sym image)
           (subst (λ t. AreRunLoads c.as_str.result.now t c.run.result done.0) (sym script) done.1),
       done.2,
+      subst (λ p. SecondAfter (LoadedFirst (g.H.Shelf.told c.args.shelf.now p)) done.0) (sym image) done.3,
     )
 
 pub returns-clause-run_answer : goal.returns-clause-run_answer
