@@ -7,7 +7,6 @@ pub mod Headline
 pub mod FaultLine
 pub mod Layout
 pub mod Lines
-pub mod PlainLimits
 pub mod PlainTree
 pub mod RunAnswer
 pub mod StraightPlan

@@ -6,13 +6,19 @@ ghost use Rattle.tcel_tool.specs.CanonicalText.{text_of};
 ghost use Rattle.tcel_tool.specs.Examples.{echo_tree, branching_vars, branching_body, windowed_task, windowed_plan};
 ghost use Rattle.tcel_tool.specs.Headline.{RunsMeet};
 ghost use Rattle.tcel_tool.specs.Layout.{image_of};
-ghost use Rattle.tcel_tool.specs.PlainTree.{set_of, IsPlain};
+ghost use Rattle.tcel_tool.specs.PlainTree.{set_of, IsPlain, IsWritable};
 ghost use Rattle.tcel_tool.specs.Walks.{Walks, IsTotal};
 ghost use Rattle.tcel_tool.specs.WholePlan.{AreWholePlans};
 
 /// The image of a program (docs/machine.md).
 pub fn layout_examples()
     ensures echo { image_of (set_of echo_tree) unit_costs ≡ echo }
+{}
+
+/// A plain program (docs/commands.md, "Plain programs").
+pub fn plain_examples()
+    ensures plain { IsPlain echo_tree }
+    ensures writable { IsWritable echo_tree }
 {}
 
 /// The canonical text of a program (docs/language.md).

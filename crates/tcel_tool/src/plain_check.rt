@@ -1,7 +1,6 @@
-ghost use Rattle.std.specs.Prelude.{◌≡◌, ◌↔◌, IsTrue, map};
+ghost use Rattle.std.specs.Prelude.{◌↔◌, ◌≤◌, IsTrue, map, length};
 ghost use Rattle.std.specs.List.{AllByRecursion};
 ghost use Rattle.std.specs.Int.{IsInRange};
-ghost use Rattle.tcel_tool.specs.PlainLimits.{IsWithinLimits};
 ghost use Rattle.tcel_tool.specs.PlainTree.{IsPlain, AreDistinct, StmtIsPlain, ExprIsPlain, OperandIsPlain};
 
 use crate::names::{is_declared, is_name_of, is_variable};
@@ -21,7 +20,7 @@ pub(crate) fn is_plain(tree: &PlainTree) -> bool
 }
 
 fn is_within_limits(tree: &PlainTree) -> bool
-    ensures { IsTrue result ↔ IsWithinLimits tree.now }
+    ensures { IsTrue result ↔ (IsInRange 1 1000 tree.now.priority × IsInRange 1 10000000 tree.now.period × (length tree.now.decls ≤ 256) × (length tree.now.body ≤ 1000)) }
 {
     is_between(tree.priority, 1000)
         && is_between(tree.period, 10_000_000)
