@@ -183,7 +183,7 @@ fn bounds_the_cycles_by_the_period(rt: HostRuntime) -> Result<(), Fail> {
 }
 
 #[test]
-fn refuses_files(rt: HostRuntime) -> Result<(), Fail> {
+fn refuses_a_program_or_target_with_other_bytes(rt: HostRuntime) -> Result<(), Fail> {
     let alloc = rt.alloc();
     let mut longer = Vec::from_slice(alloc, ECHO)?;
     longer.push(b'\n').map_err(|_| "memory")?;
@@ -201,30 +201,32 @@ fn refuses_files(rt: HostRuntime) -> Result<(), Fail> {
         NONE,
         (second, 20),
         (b"", b"beyond: t\n"),
-    )?;
-    let (first, second) = (Status::ReadFault { word: 1 }, Status::ReadFault { word: 2 });
-    let fails = Fails {
-        load: Some(1),
-        ..NONE
-    };
-    compare(
-        &rt,
-        (ECHO, UNIT),
-        fails,
-        (first, 5),
-        (b"", b"read fault: p\n"),
-    )?;
-    let fails = Fails {
-        load: Some(2),
-        ..NONE
-    };
-    compare(
-        &rt,
-        (ECHO, UNIT),
-        fails,
-        (second, 5),
-        (b"", b"read fault: t\n"),
-    )?;
+    )
+}
+
+#[test]
+fn refuses_loads_of_a_compilation(rt: HostRuntime) -> Result<(), Fail> {
+    let rows = [(1, 1, "read fault: p\n"), (2, 2, "read fault: t\n")];
+    for (load, word, line) in rows {
+        let fails = Fails {
+            load: Some(load),
+            ..NONE
+        };
+        let status = Status::ReadFault { word };
+        compare(
+            &rt,
+            (ECHO, UNIT),
+            fails,
+            (status, 5),
+            (b"", line.as_bytes()),
+        )?;
+    }
+    Ok(())
+}
+
+#[test]
+fn refuses_a_long_target(rt: HostRuntime) -> Result<(), Fail> {
+    let alloc = rt.alloc();
     let long = vec![in alloc; b' '; 65_537]?;
     let status = Status::Limit(LimitFault::Bytes {
         word: 2,
@@ -278,62 +280,144 @@ fn program(alloc: Global, (head, decls, body): (&str, &str, &str)) -> Result<Str
     format!(in alloc; "task {head} {{\n{decls}  every 10000000 {{\n{body}  }}\n}}\n")
 }
 
-#[test]
-fn accepts_plain_texts(rt: HostRuntime) -> Result<(), Fail> {
-    let alloc = rt.alloc();
-    let mut many = String::new(alloc);
-    for number in 0..256u32 {
-        many.push_str(format!(in alloc; "  state int v{number};\n")?.as_str())?;
+/// Declarations of one variable and port of each kind.
+const DECLS: &str = "  input a;\n  output b;\n  state int c;\n  local int d;\n";
+
+/// Declarations of so many states.
+fn states(alloc: Global, count: u32) -> Result<String, AllocError> {
+    let mut decls = String::new(alloc);
+    for number in 0..count {
+        decls.push_str(format!(in alloc; "  state int v{number};\n")?.as_str())?;
     }
-    let all = "  input a;\n  output b;\n  state int c;\n  local int d;\n";
+    Ok(decls)
+}
+
+/// So many statements.
+fn statements(alloc: Global, count: u32) -> Result<String, AllocError> {
+    let mut body = String::new(alloc);
+    for number in 0..count {
+        body.push_str(format!(in alloc; "    d := {number};\n")?.as_str())?;
+    }
+    Ok(body)
+}
+
+/// Compiles a text, with room for its image.
+fn compile_text(alloc: Global, text: &str) -> Result<Left, Fail> {
+    let fails = Fails {
+        room: 100_000,
+        ..NONE
+    };
+    run(alloc, &COMPILE, (text.as_bytes(), UNIT), fails)
+}
+
+fn accept(rt: &(impl Abort + AllocGlobal), parts: (&str, &str, &str)) -> Result<(), Fail> {
+    let text = program(rt.alloc(), parts)?;
+    let left = compile_text(rt.alloc(), text.as_str())?;
+    assert_eq!(rt; left.status, Status::Ok, "{text}");
+    Ok(())
+}
+
+fn refuse(rt: &(impl Abort + AllocGlobal), text: &str) -> Result<(), Fail> {
+    let left = compile_text(rt.alloc(), text)?;
+    assert_eq!(rt; left.status, Status::Beyond { word: 1 }, "{text}");
+    assert_eq!(rt; left.out.bytes(), b"".as_slice());
+    assert_eq!(rt; left.err.bytes(), b"beyond: p\n".as_slice());
+    Ok(())
+}
+
+#[test]
+fn accepts_plain_heads_and_declarations(rt: HostRuntime) -> Result<(), Fail> {
     let rows = [
-        ("t priority 1", "", ""),
-        ("t priority 1000", "", ""),
-        ("abcdefghijklmnopqrstuvwxyz_01234 priority 7", "", ""),
-        ("t priority 1", "  input a;\n", ""),
-        ("t priority 1", "  output a;\n", ""),
-        ("t priority 1", "  state int a;\n", ""),
-        ("t priority 1", "  local int a;\n", ""),
+        ("t priority 1", ""),
+        ("t priority 1000", ""),
+        ("abcdefghijklmnopqrstuvwxyz_01234 priority 7", ""),
+        ("t priority 1", "  input a;\n"),
+        ("t priority 1", "  output a;\n"),
+        ("t priority 1", "  state int a;\n"),
+        ("t priority 1", "  local int a;\n"),
         (
             "t priority 1",
             "  local int a;\n  state int t;\n  input x;\n  input y;\n",
-            "",
-        ),
-        ("t priority 1", many.as_str(), "    v255 := v0;\n"),
-        ("t priority 1", all, "    c := 0;\n"),
-        ("t priority 1", all, "    d := 9223372036854775807;\n"),
-        ("t priority 1", all, "    c := d;\n"),
-        ("t priority 1", all, "    c := c + d;\n"),
-        ("t priority 1", all, "    c := 1 - d;\n"),
-        ("t priority 1", all, "    d := d - 0;\n"),
-        ("t priority 1", all, "    d := 2 + 3;\n"),
-        (
-            "t priority 1",
-            all,
-            "    receive c from a;\n    receive d from a;\n",
-        ),
-        ("t priority 1", all, "    send 5 to b;\n    send d to b;\n"),
-        ("t priority 1", all, "    send c + 1 to b;\n"),
-        (
-            "t priority 1",
-            all,
-            "    send 9223372036854775807 - d to b;\n",
         ),
     ];
-    for row in rows {
-        let text = program(alloc, row)?;
-        let left = run(
-            alloc,
-            &COMPILE,
-            (text.as_bytes(), UNIT),
-            Fails {
-                room: 100_000,
-                ..NONE
-            },
-        )?;
-        assert_eq!(rt; left.status, Status::Ok, "{text}");
+    for (head, decls) in rows {
+        accept(&rt, (head, decls, ""))?;
     }
     Ok(())
+}
+
+#[test]
+fn accepts_plain_statements(rt: HostRuntime) -> Result<(), Fail> {
+    let rows = [
+        "    c := 0;\n",
+        "    d := 9223372036854775807;\n",
+        "    c := d;\n",
+        "    c := c + d;\n",
+        "    c := 1 - d;\n",
+        "    d := 2 + 3;\n",
+        "    receive c from a;\n    receive d from a;\n",
+        "    send 5 to b;\n    send d to b;\n",
+        "    send c + 1 to b;\n",
+        "    send 9223372036854775807 - d to b;\n",
+    ];
+    for body in rows {
+        accept(&rt, ("t priority 1", DECLS, body))?;
+    }
+    Ok(())
+}
+
+#[test]
+fn accepts_the_most_names_and_statements(rt: HostRuntime) -> Result<(), Fail> {
+    let decls = states(rt.alloc(), 256)?;
+    accept(&rt, ("t priority 1", decls.as_str(), "    v255 := v0;\n"))?;
+    let body = statements(rt.alloc(), 1000)?;
+    accept(&rt, ("t priority 1", DECLS, body.as_str()))
+}
+
+#[test]
+fn refuses_programs_that_are_not_plain(rt: HostRuntime) -> Result<(), Fail> {
+    let rows = [
+        ("t priority 0", DECLS, ""),
+        ("t priority 1001", DECLS, ""),
+        ("t priority 1", "  input a;\n  local int a;\n", ""),
+        ("t priority 1", DECLS, "    z := 0;\n"),
+        ("t priority 1", DECLS, "    d := z;\n"),
+        ("t priority 1", DECLS, "    send 5 to z;\n"),
+        ("t priority 1", DECLS, "    send 5 to a;\n"),
+        ("t priority 1", DECLS, "    receive d from b;\n"),
+        ("t priority 1", DECLS, "    d := 01;\n"),
+        ("t priority 1", DECLS, "    d := 9223372036854775808;\n"),
+        ("t priority 1", DECLS, "    d :=  1;\n"),
+        ("t priority 1", DECLS, "    d := d * 2;\n"),
+    ];
+    for parts in rows {
+        refuse(&rt, program(rt.alloc(), parts)?.as_str())?;
+    }
+    Ok(())
+}
+
+#[test]
+fn refuses_a_period_out_of_range(rt: HostRuntime) -> Result<(), Fail> {
+    for period in ["0", "10000001"] {
+        refuse(&rt, echo_every(rt.alloc(), period)?.as_str())?;
+    }
+    Ok(())
+}
+
+#[test]
+fn refuses_more_names_statements_or_tasks(rt: HostRuntime) -> Result<(), Fail> {
+    let alloc = rt.alloc();
+    let decls = states(alloc, 257)?;
+    let names = ("t priority 1", decls.as_str(), "    v255 := v0;\n");
+    refuse(&rt, program(alloc, names)?.as_str())?;
+    let body = statements(alloc, 1001)?;
+    refuse(
+        &rt,
+        program(alloc, ("t priority 1", DECLS, body.as_str()))?.as_str(),
+    )?;
+    let mut tasks = echo_every(alloc, "10")?;
+    tasks.push_str(program(alloc, ("u priority 2", "", ""))?.as_str())?;
+    refuse(&rt, tasks.as_str())
 }
 
 const SCRIPT: &[u8] = b"t s 5 6\n";
