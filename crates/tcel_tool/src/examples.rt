@@ -6,7 +6,7 @@ ghost use Rattle.tcel_tool.specs.CanonicalText.{text_of};
 ghost use Rattle.tcel_tool.specs.Examples.{echo_tree, branching_vars, branching_body, windowed_task, windowed_plan};
 ghost use Rattle.tcel_tool.specs.Headline.{SetRunsMeet};
 ghost use Rattle.tcel_tool.specs.Layout.{image_of};
-ghost use Rattle.tcel_tool.specs.PlainTree.{set_of, IsPlain};
+ghost use Rattle.tcel_tool.specs.PlainTree.{set_of};
 ghost use Rattle.tcel_tool.specs.Walks.{Walks, IsTotal};
 ghost use Rattle.tcel_tool.specs.WholePlan.{AreWholePlans};
 
