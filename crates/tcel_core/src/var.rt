@@ -27,5 +27,6 @@ pub enum VarKind {
 pub enum Keep {
     State,
     Local,
+    /// What slicing adds; it lives as long as a local.
     Temp,
 }
