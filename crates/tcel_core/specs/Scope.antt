@@ -13,14 +13,14 @@ HaveOperands (element v i) = HaveOperands i
 HaveOperands (unary op e) = (is_unary op ≡ true) × HaveOperands e
 HaveOperands (binary op a b) = (is_unary op ≡ false) × HaveOperands a × HaveOperands b
 
--- a scalar that is one of these variables
-abbrev pub IsScalar : List Var → ℕ → Type 0
-IsScalar vars v = place vars v < all_words vars
+-- a variable that has a word
+abbrev pub HasWord : List Var → ℕ → Type 0
+HasWord vars v = place vars v < all_words vars
 
 -- an expression over these variables
 abbrev pub IsInScope : List Var → Expr → Type 0
 IsInScope vars (number n) = Unit {0}
-IsInScope vars (variable v) = IsScalar vars v
+IsInScope vars (variable v) = HasWord vars v
 IsInScope vars (element v i) = IsInScope vars i
 IsInScope vars (unary op e) = IsInScope vars e
 IsInScope vars (binary op a b) = IsInScope vars a × IsInScope vars b
@@ -52,11 +52,11 @@ abbrev mutual
   StmtFits (timed id window body) vars = Fits body vars
 
   pub ActFits : Act → List Var → Type 0
-  ActFits (assign v e) vars = IsScalar vars v × IsSound vars e
+  ActFits (assign v e) vars = HasWord vars v × IsSound vars e
   ActFits (assign_at v i e) vars = IsSound vars i × IsSound vars e
-  ActFits (receive v port) vars = IsScalar vars v
+  ActFits (receive v port) vars = HasWord vars v
   ActFits (send e port) vars = IsSound vars e
-  ActFits (for_loop v n body) vars = IsScalar vars v × AreTurns n × Fits body vars
+  ActFits (for_loop v n body) vars = HasWord vars v × AreTurns n × Fits body vars
   ActFits (while_loop test n body) vars = IsSound vars test × AreTurns n × Fits body vars
   ActFits (copy a b) vars = AreAlike vars a b
 

@@ -2,6 +2,7 @@
 /// may have, in ticks after the frame's release (docs/language.md).
 #[derive(Clone, Copy, Debug, PartialEq, Eq)]
 pub struct Event {
+    /// Its number among the task's inputs or among its outputs, from 0.
     pub port: u32,
     pub kind: EventKind,
     pub value: i64,
@@ -9,6 +10,7 @@ pub struct Event {
     pub latest: u64,
 }
 
+/// Whether the value came from an input or went to an output.
 #[derive(Clone, Copy, Debug, PartialEq, Eq)]
 pub enum EventKind {
     Receive,

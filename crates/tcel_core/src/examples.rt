@@ -1,4 +1,4 @@
-ghost use Rattle.std.specs.Prelude.{◌≡◌, [], ◌∷◌, ◌++◌, pos, negsuc, ℤ, ℕ, IfOk, replicate};
+ghost use Rattle.std.specs.Prelude.{◌≡◌, [], ◌∷◌, ◌++◌, pos, negsuc, IfOk, replicate};
 ghost use Rattle.tcel_core.specs.Examples.{MeetsCounter, alarm, alarm_body, array_body, counted, counter, counter_body, counter_streams, counter_vars, edge_body, edge_vars, entry, for_body, loop_vars, memory, nested_body, one, passed_on, plus, primed_vars, sent, shared_first_body, taken, while_body};
 ghost use Rattle.tcel_core.specs.Language.{next, done, item, choice, send, assign, number, variable, binary};
 ghost use Rattle.tcel_core.specs.Meaning.{exec};
@@ -75,7 +75,7 @@ fn count_or_send(alloc: Global) -> Result<CoreStmt, NoMemory>
 
 /// A body of the examples as code has it: `receive x from s;` and then, in a block that starts before 15,
 /// `if x > 0 { n := n + 1; } else { send n to o; } send 5 to o;`.
-pub fn example_body(alloc: Global) -> Result<Body, NoMemory>
+pub(crate) fn example_body(alloc: Global) -> Result<Body, NoMemory>
     ensures { IfOk result (λ b. plain_body b ≡ alarm_body) }
 {
     let receiving = CoreStmt::Item {

@@ -18,7 +18,7 @@ mod var;
 pub use body::{Body, CoreStmt, Item};
 pub use cells::Cells;
 pub use event::{Event, EventKind};
-pub use examples::{example_body, frame_examples, meaning_examples, trace_examples};
+pub use examples::{frame_examples, meaning_examples, trace_examples};
 pub use expr::CoreExpr;
 pub use inputs::Inputs;
 pub use item_set::ItemSet;

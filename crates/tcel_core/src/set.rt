@@ -14,6 +14,7 @@ pub struct Set {
 #[derive(Debug, Drop)]
 pub struct CoreTask {
     pub name: Name,
+    /// 1 to 1,000; the task with the larger number runs first.
     pub priority: u32,
     pub period: u64,
     pub finish: u64,

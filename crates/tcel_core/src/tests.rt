@@ -1,4 +1,5 @@
-use crate::{Inputs, ItemSet, example_body};
+use crate::examples::example_body;
+use crate::{Inputs, ItemSet};
 use sqlite_items::Items;
 use std::test::Fail;
 

@@ -10,9 +10,12 @@ pub struct Var {
     pub first: i64,
 }
 
+/// What a variable holds: a scalar one word, an array one for each element.
 #[derive(Clone, Copy, Debug, PartialEq, Eq)]
 pub enum VarKind {
+    /// Any number of 64 bits.
     Int,
+    /// 0 or 1.
     Bool,
     /// An array of ints, of 1 to 4,096 words.
     Array(u32),
@@ -24,5 +27,6 @@ pub enum VarKind {
 pub enum Keep {
     State,
     Local,
+    /// What slicing adds; it lives as long as a local.
     Temp,
 }

@@ -75,9 +75,6 @@ shape_again : (in_a in_b in_c : Range) (make : Operands → Instr) → Bounded i
 shape_again in_a in_b in_c make bounded q rest h =
     ap (λ r. after r (λ o. done (make o))) ((operands_reads in_a in_b in_c bounded.a bounded.b bounded.c).again q rest h)
 
-bounded_word : {r : Range} → r.greatest < 2 ^ 32 → Bounded r r r
-bounded_word h = record { a = h; b = h; c = h }
-
 zero_is : (n : ℕ) → IsInRange 0 0 n → n ≡ 0
 zero_is n h = omega (arith, h.1)
 

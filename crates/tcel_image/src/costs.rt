@@ -1,5 +1,5 @@
-ghost use Rattle.std.specs.Prelude.{◌≡◌, ℕ};
-ghost use Rattle.tcel_image.specs.Costs.{cost_of, all_keys, IsCost, ChangesCost};
+ghost use Rattle.std.specs.Prelude.{◌≡◌};
+ghost use Rattle.tcel_image.specs.Costs.{cost_of, IsCost, ChangesCost};
 
 /// What an instruction costs, in cycles, by its kind: 1 to 1,000 each (docs/machine.md).
 #[derive(Clone, Copy, Debug, PartialEq, Eq)]

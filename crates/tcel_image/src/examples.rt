@@ -1,10 +1,10 @@
-ghost use Rattle.std.specs.Prelude.{◌≡◌, ◌∷◌, [], true, false, codes, pos, negsuc};
+ghost use Rattle.std.specs.Prelude.{◌≡◌, [], true, false, codes};
 ghost use Rattle.tcel_num.specs.Entry.{first, end};
 ghost use Rattle.tcel_image.specs.Machine.{trace};
 ghost use Rattle.tcel_image.specs.TraceText.{text};
-ghost use Rattle.tcel_image.specs.Validity.{IsFirstFlaw, IsValid, has_flaw};
+ghost use Rattle.tcel_image.specs.Validity.{has_flaw};
 ghost use Rattle.tcel_image.specs.declared.flaw.FlawKind.TheVariants as kinds;
-ghost use Rattle.tcel_image.specs.Examples.{echo, echo_streams, echo_trace, held, held_trace, preempted, preempted_trace, shifting, entry, flawed, flaw};
+ghost use Rattle.tcel_image.specs.Examples.{echo, echo_streams, echo_trace, held, held_trace, preempted, preempted_trace, shifting, flawed, flaw};
 
 /// Worked examples of the machine's definitions (docs/machine.md).
 pub fn machine_examples()

@@ -22,12 +22,17 @@ pub enum ImageFail {
 /// A fault, with the number of bytes from its place to the end.
 #[derive(Clone, Copy, Debug, PartialEq, Eq)]
 pub enum Fault {
+    /// The front isn't `TCEL`.
     Magic,
+    /// A field needs more bytes than there are.
     Cut,
+    /// A field has a value that isn't allowed.
     Value { left: usize },
+    /// Bytes follow the last instruction.
     Surplus { left: usize },
 }
 
+/// Why a reader gave no value: memory ran out, or the bytes have a fault.
 #[derive(Debug, Drop)]
 pub enum ReadError {
     Memory,

@@ -14,6 +14,7 @@ pub struct Image {
 pub struct ImageTask {
     pub name: Name,
     pub period: u32,
+    /// Whether its frames do a first part, with all their events, and then the rest.
     pub sliced: bool,
     pub inputs: Items<Name>,
     pub outputs: Items<Name>,

@@ -1,8 +1,7 @@
-ghost use Rattle.std.specs.Prelude.{◌≡◌, ℕ, List, ◌++◌, ◌∷◌, [], ◌<◌, ◌≤◌, ◌^◌, length, All, OnOk, IfOk};
+ghost use Rattle.std.specs.Prelude.{◌≡◌, ℕ, List, ◌++◌, ◌<◌, All, OnOk, IfOk};
 ghost use Rattle.std.specs.List.{flat_map};
 ghost use Rattle.std.specs.Int.{w16, w32};
-ghost use Rattle.tcel_image.specs.Costs.{all_keys};
-ghost use Rattle.tcel_image.specs.Spelling.{number, byte, op_number, opcode, operator, three, operands, kind_number, flag, names, states, code, costs, NamesInRange, StatesInRange, CodeInRange, InRange, spelling};
+ghost use Rattle.tcel_image.specs.Spelling.{number, byte, op_number, opcode, operator, three, operands, kind_number, names, states, code, costs, NamesInRange, StatesInRange, CodeInRange, InRange, spelling};
 
 use crate::costs::{CostKey, Costs};
 use crate::image::{Image, ImageState, ImageTask, Instr, Line, StateKind};

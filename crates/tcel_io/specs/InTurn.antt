@@ -75,11 +75,6 @@ AreCutOff-more [] more old new none = absurd none
 AreCutOff-more (piece ∷ pieces) more old new (inl cut) = inl cut
 AreCutOff-more (piece ∷ pieces) more old new (inr (middle, one, rest)) = inr (middle, one, AreCutOff-more pieces more middle new rest)
 
--- a piece that was taken before others that were put
-pub ArePut-next : (piece : List ℕ) (pieces : List (List ℕ)) (old middle new : Seen) → IsTaken piece old middle → ArePut pieces middle new → ArePut (piece ∷ pieces) old new
-ArePut-next piece pieces old middle new one (inl all) = inl (middle, one, all)
-ArePut-next piece pieces old middle new one (inr cut) = inr (inr (middle, one, cut))
-
 -- where no fault came, all were taken
 pub ArePut-whole : (pieces : List (List ℕ)) (old new : Seen) → ArePut pieces old new → Rose old.faults new.faults ⊎ Takes (concat pieces) old.taken new.taken
 ArePut-whole pieces old new (inl all) = inr (AreTaken-whole pieces old new all)

@@ -4,7 +4,9 @@ use std::marker::Model;
 #[derive(Clone, Copy, Debug, PartialEq, Eq)]
 pub enum Outcome {
     Done,
+    /// The file can't be read.
     Fault,
+    /// The file has more bytes than the limit.
     TooLong,
 }
 

@@ -35,7 +35,7 @@ ready_is tasks now runs number task run t r =
     ap (λ found. option_map_or (λ task. option_map_or (λ running. is_ready task now running) (slice_get (map running_of runs) number) false) found false) t
     ∙ ap (λ found. option_map_or (λ running. is_ready task now running) found false) (slice_get-map running_of runs number ∙ ap (λ found. elim found as (λ _. Option Running) [ None ↦ None | Some x ↦ Some (running_of x) ]) r)
 
-never_ready : (found : Option ImageTask) → option_map_or (λ (task : ImageTask). false) found false ≡ false
+pub never_ready : (found : Option ImageTask) → option_map_or (λ (task : ImageTask). false) found false ≡ false
 never_ready None = refl
 never_ready (Some task) = refl
 

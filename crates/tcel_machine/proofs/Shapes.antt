@@ -1,5 +1,5 @@
 -- A line of a valid image can run, and leads to a line that can.
-use Rattle.std.proofs.Common.{◌≡◌, ℕ, zero, suc, ◌+◌, ◌-◌, ◌*◌, ◌^◌, ◌<◌, ◌≤◌, ℤ, pos, negsuc, Bool, true, false, not, cond, ◌&&◌, ◌||◌, ◌==◌, ltb, leb, int_lt, List, [], ◌∷◌, length, get_or, set, Option, Some, None, refl, ap, sym, ◌∙◌, subst, arith, length-append, length-take, length-drop}
+use Rattle.std.proofs.Common.{◌≡◌, ℕ, zero, suc, ◌+◌, ◌-◌, ◌*◌, ◌^◌, ◌<◌, ◌≤◌, ℤ, pos, Bool, true, false, not, cond, ◌&&◌, ◌||◌, ◌==◌, ltb, leb, int_lt, List, [], ◌∷◌, length, get_or, set, Option, Some, None, refl, ap, sym, ◌∙◌, subst, arith, length-append, length-take}
 use Rattle.std.specs.List.{list_any, slice_get}
 use Rattle.std.specs.Option.{option_map_or}
 use Rattle.std.proofs.lemmas.List.{length-replicate}
@@ -9,7 +9,7 @@ use Rattle.std.proofs.lemmas.Bool.Decides.{nat_tests}
 use Rattle.std.proofs.lemmas.Option.{none-some, same_Some}
 use Rattle.tcel_num.specs.declared.op.Op.{Op}
 use Rattle.tcel_num.specs.Arithmetic.{is_unary, holds}
-use Rattle.tcel_num.specs.Words.{with_element, copied}
+use Rattle.tcel_num.proofs.Words.{length-with_element, length-copied}
 use Rattle.tcel_image.specs.declared.flaw.FlawKind.TheVariants.{JumpOut, BadCell, BadPort, BadDepth, FallsOff}
 use Rattle.tcel_image.specs.declared.image.ImageTask.{ImageTask}
 use Rattle.tcel_image.specs.declared.image.Instr.{Instr}
@@ -119,14 +119,6 @@ pub record LeadsTo (task : ImageTask) (r : Running) : Type 0 where
 
 pub has_shape : (task : ImageTask) (r : Running) → LeadsTo task r → HasShape task r
 has_shape task r l = record { place = l.at.within; low = l.at.low; depth = λ line is. sym (l.at.deep line is); cells = l.cells; taken = l.taken }
-
-length-with_element : (cells : List ℤ) (from size : ℕ) (index value : ℤ) → length (with_element cells from size index value) ≡ length cells
-length-with_element cells from size (pos index) value =
-    elim (ltb index size) as (λ b. length (cond b (set cells (from + index) value) cells) ≡ length cells) [ true ↦ length-set cells (from + index) value | false ↦ refl ]
-length-with_element cells from size (negsuc index) value = refl
-
-length-copied : (cells : List ℤ) (from to size : ℕ) → from + size ≤ length cells → to + size ≤ length cells → length (copied cells from to size) ≡ length cells
-length-copied cells from to size f t = simp (length-append, length-take, length-drop) (omega arith)
 
 length-applied : (op : Op) (stack : List ℤ) → cond (is_unary op) 1 2 ≤ length stack → length (applied op stack) ≡ length stack - cond (is_unary op) 1 2 + 1
 length-applied op stack h =

@@ -1,12 +1,12 @@
 -- A tick of a list of tasks, by the first that is ready.
-use Rattle.std.proofs.Common.{◌≡◌, ℕ, zero, suc, ◌+◌, ◌<◌, true, false, List, [], ◌∷◌, get_or, set, Option, Some, None, refl, ap, sym, ◌∙◌, arith}
+use Rattle.std.proofs.Common.{◌≡◌, ℕ, zero, suc, ◌+◌, ◌<◌, true, false, List, [], ◌∷◌, get_or, set, None, refl, ap, sym, ◌∙◌, arith}
 use Rattle.std.specs.List.{slice_get}
-use Rattle.std.specs.Option.{option_map_or}
 use Rattle.std.proofs.lemmas.Bool.{false≢true}
 use Rattle.tcel_image.specs.declared.costs.Costs.{Costs}
 use Rattle.tcel_image.specs.declared.image.ImageTask.{ImageTask}
 use Rattle.tcel_image.specs.Machine.{Running, Streams, Ticked, cycle, after, entry_of, tick_from}
 use Rattle.tcel_machine.specs.Runs.{ready_at}
+use Rattle.tcel_machine.proofs.Ready.{never_ready}
 
 -- what a tick leaves in which the task of this number has a cycle
 abbrev pub ticked_at : Costs → ℕ → ImageTask → Streams → ℕ → ℕ → Running → List Running → Ticked
@@ -14,16 +14,12 @@ ticked_at costs now task streams number place running all =
     let outcome = cycle costs task (get_or streams number []) now running in
     record { tasks = set all place outcome.task; entry = entry_of now number running outcome.shown }
 
-never : (found : Option ImageTask) → option_map_or (λ (task : ImageTask). false) found false ≡ false
-never None = refl
-never (Some task) = refl
-
 pub tick_at : (costs : Costs) (now : ℕ) (tasks : List ImageTask) (streams : Streams) (from number place : ℕ) (all : List Running) (task : ImageTask) (running : Running)
     → number ≡ from + place → ready_at tasks now all place ≡ true → ((other : ℕ) → other < place → ready_at tasks now all other ≡ false)
     → tick_from costs now tasks streams from all ≡ ticked_at costs now (get_or tasks place task) streams number place (get_or all place running) all
 tick_at costs now [] streams from number place all task running e here before = absurd (false≢true here)
 tick_at costs now (t ∷ tasks) streams from number zero [] task running e here before = absurd (false≢true here)
-tick_at costs now (t ∷ tasks) streams from number (suc place) [] task running e here before = absurd (false≢true (sym (never (slice_get tasks place)) ∙ here))
+tick_at costs now (t ∷ tasks) streams from number (suc place) [] task running e here before = absurd (false≢true (sym (never_ready (slice_get tasks place)) ∙ here))
 tick_at costs now (t ∷ tasks) streams from number zero (r ∷ all) task running e here before =
     let same : from ≡ number = omega arith in rw (here, same) refl
 tick_at costs now (t ∷ tasks) streams from number (suc place) (r ∷ all) task running e here before =

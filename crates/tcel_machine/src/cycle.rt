@@ -1,5 +1,4 @@
 ghost use Rattle.std.specs.Prelude.{◌≡◌, ◌+◌, ◌*◌, ◌<◌, ◌≤◌, ◌^◌, [], slice_index_or};
-ghost use Rattle.tcel_image.specs.Costs.{CostsInRange};
 ghost use Rattle.tcel_image.specs.Machine.{cycle};
 ghost use Rattle.tcel_image.specs.Spelling.{TaskInRange};
 ghost use Rattle.tcel_machine.specs.Runs.{IsTaskValid, IsRunning};

@@ -3,6 +3,7 @@
 #[derive(Clone, Copy, Debug, PartialEq, Eq)]
 pub struct Entry {
     pub time: u64,
+    /// The task's number in the image, from 0.
     pub task: u32,
     pub frame: u64,
     pub what: What,

@@ -1,8 +1,5 @@
-ghost use Rattle.std.specs.Prelude.{◌≡◌, ◌<◌, ◌≤◌, ◌^◌, length, map, IfOk};
+ghost use Rattle.std.specs.Prelude.{◌≡◌, ◌<◌, ◌^◌, length, IfOk};
 ghost use Rattle.tcel_machine.specs.Run.{loaded, after_tick, tick_of, state_at, Tells};
-ghost use Rattle.tcel_machine.specs.Runs.{AreSound, AllRun};
-ghost use Rattle.tcel_machine.specs.Task.{running_of};
-ghost use Rattle.tcel_image.specs.Machine.{start_task};
 
 use crate::entry::Entry;
 use crate::start::start_all;

@@ -1,7 +1,7 @@
-ghost use Rattle.std.specs.Prelude.{◌≡◌, ◌+◌, ◌<◌, ◌≤◌, ◌^◌, ◌∷◌, [], pos, length, slice_index, slice_index_or, slice_set, int_lt, if◌then◌else◌};
+ghost use Rattle.std.specs.Prelude.{◌≡◌, ◌+◌, ◌<◌, ◌≤◌, ◌^◌, ◌∷◌, pos, length, slice_index, slice_index_or, slice_set, int_lt, if◌then◌else◌};
 ghost use Rattle.tcel_num.specs.Arithmetic.{is_unary, holds};
 ghost use Rattle.tcel_num.specs.Words.{element, with_element, copied};
-ghost use Rattle.tcel_image.specs.Machine.{Running, Outcome, go_on, move_to, show, top, below, applied, counted, end_frame};
+ghost use Rattle.tcel_image.specs.Machine.{go_on, move_to, top, below, applied, counted, end_frame};
 ghost use Rattle.tcel_machine.specs.Task.{running_of, Becomes, Holds, HasCells, state_of};
 
 use crate::cells::{clear, copy, element, set_element};

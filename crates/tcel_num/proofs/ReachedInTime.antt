@@ -1,12 +1,11 @@
 -- Where no point is ever late, each point that is reached is reached by its bound.
-use Rattle.std.proofs.Common.{◌≡◌, ℕ, zero, suc, ◌+◌, ◌-◌, ◌*◌, ◌/◌, ◌<◌, ◌≤◌, List, subst, arith, Some, inl, inr}
+use Rattle.std.proofs.Common.{◌≡◌, ℕ, zero, suc, ◌+◌, ◌-◌, ◌*◌, ◌≤◌, List, subst, arith, Some, inl, inr}
 use Rattle.std.specs.Prelude.{slice_get}
-use Rattle.std.proofs.Math.Nat.{mul-pos}
 use Rattle.std.proofs.lemmas.Bool.{cases_lt}
 use Rattle.tcel_num.specs.Lateness.{Place, IsFirstServed, IsResponse, IsNeverLate}
 use Rattle.tcel_num.specs.Plan.{Plan, Point}
-use Rattle.tcel_num.specs.Schedule.{served, served_counts}
-use Rattle.tcel_num.proofs.Served.{AreWhole, whole_at, served_mono, served_again}
+use Rattle.tcel_num.specs.Schedule.{served}
+use Rattle.tcel_num.proofs.Served.{served_mono}
 
 -- the first time at which so many cycles are served, if there is one
 first_time : (plans : List Plan) (task cycles later : ℕ) → cycles ≤ served plans later task → (time : ℕ) × IsFirstServed plans task cycles time × (time ≤ later)
@@ -37,15 +36,3 @@ reached_in_time plans never i f k plan point of_plan of_point later h =
           absurd (never place (plan, point, response, is, omega arith))
       | inr soon ↦ let rises = served_mono plans time.0 (f * plan.period + point.bound) i soon in let there = time.1.there in omega arith
     ]
-
--- where all work of a stretch is done at its end, a task with some work is served any number of cycles
-pub served_without_end : (plans : List Plan) (stretch i : ℕ) (plan : Plan) → AreWhole plans stretch (served_counts plans stretch) → slice_get plans i ≡ Some plan →
-    0 < plan.total → 0 < stretch / plan.period → (cycles : ℕ) → (later : ℕ) × (cycles ≤ served plans later i)
-served_without_end plans stretch i plan whole e some long zero = (0, omega arith)
-served_without_end plans stretch i plan whole e some long (suc cycles) =
-    let sooner = served_without_end plans stretch i plan whole e some long cycles in
-    let again = served_again plans stretch sooner.0 i whole in
-    let frames = (whole_at plans stretch (served_counts plans stretch) i plan whole e).frames in
-    let work : 0 < plan.total * (stretch / plan.period) = mul-pos some long in
-    let enough = sooner.1 in
-    (stretch + sooner.0, omega arith)

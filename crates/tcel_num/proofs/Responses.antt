@@ -5,15 +5,8 @@ use Rattle.std.proofs.Math.Nat.{div-add-mod', mod-lt}
 use Rattle.std.proofs.lemmas.Bool.{and_parts, leb-true, leb-false, cases_lt, cases_order}
 use Rattle.tcel_num.specs.Plan.{Plan, Point}
 use Rattle.tcel_num.specs.Schedule.{served_counts, served}
-use Rattle.tcel_num.specs.Lateness.{Place, IsFirstServed, IsResponse, IsLate}
+use Rattle.tcel_num.specs.Lateness.{Place, IsResponse, IsLate}
 use Rattle.tcel_num.proofs.Served.{served_mono, served_again, AreWhole, whole_at}
-
--- counts below and above show the first time
-pub first_served : (plans : List Plan) (task cycles time : ℕ) → served plans time task < cycles → cycles ≤ served plans (suc time) task → IsFirstServed plans task cycles (suc time)
-first_served plans task cycles time below above = record {
-  there = above;
-  before = λ earlier h. omega (arith, served_mono plans earlier time task (omega arith));
-}
 
 -- the cycles of a point in a frame are served so many ticks after the release
 abbrev pub is_within : List Plan → ℕ → Plan → Point → ℕ → ℕ → Bool

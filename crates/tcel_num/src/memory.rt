@@ -1,4 +1,3 @@
-ghost use Rattle.std.specs.Prelude.{◌≡◌};
 ghost use Rattle.tcel_num.specs.declared.memory.NoMemory.{NoMemory};
 
 use std::alloc::{AllocError, AllocFailed};

@@ -1,4 +1,4 @@
-ghost use Rattle.std.specs.Prelude.{◌≡◌, ◌^◌, pos, neg_ℤ, nat_le, if◌then◌else◌, Some, None, option_map, IfOk};
+ghost use Rattle.std.specs.Prelude.{◌≡◌, if◌then◌else◌, Some, None, option_map, IfOk};
 ghost use Rattle.tcel_script.specs.Numbers.{is_digits, magnitude, negative_number, plain_number, number_of, numbers_of};
 ghost use Rattle.tcel_script.specs.Lines.{words};
 

@@ -7,7 +7,7 @@ use Rattle.tcel_core.specs.declared.var.Var.{Var}
 use Rattle.tcel_core.specs.Cells.{all_words, place, width}
 use Rattle.tcel_core.specs.Contents.{has_statement, loops, stmt_loops, act_loops}
 use Rattle.tcel_core.specs.Language.{Expr, number, variable, element, unary, binary, Block, done, next, Stmt, item, choice, timed, Act, assign, assign_at, receive, send, for_loop, while_loop, copy}
-use Rattle.tcel_core.specs.Scope.{Fits, StmtFits, ActFits, HaveOperands, IsInScope, IsScalar, IsSound}
+use Rattle.tcel_core.specs.Scope.{Fits, StmtFits, ActFits, HaveOperands, IsInScope, HasWord, IsSound}
 use Rattle.tcel_core.proofs.Scope.{array_within}
 use Rattle.tcel_image.specs.declared.image.ImageTask.{ImageTask}
 use Rattle.tcel_image.specs.declared.image.Instr.{Instr}
@@ -188,7 +188,7 @@ module _ (task : ImageTask) where
       value_fits : (e : Expr) → IsSound vars e → (depth p : ℕ) → depth + height e ≤ 128 → IsFitCode p depth (depth + 1) (expr_code e vars depth)
       value_fits e sound depth p low = expr_code_fits e cells sound.operands sound.scope depth p low
 
-      put_fits : (v p : ℕ) → IsScalar vars v → IsFitCode p 1 0 (at 1 (Put (place vars v)))
+      put_fits : (v p : ℕ) → HasWord vars v → IsFitCode p 1 0 (at 1 (Put (place vars v)))
       put_fits v p there = line_fits p 1 0 (Put (place vars v)) (omega arith) (omega arith) (omega arith) (omega arith, tt) tt refl (λ h. (h, tt))
 
       -- a counter is set to 0
@@ -202,7 +202,7 @@ module _ (task : ImageTask) where
       round_fits : (p counter turns start : ℕ) → counter < task.cells → Leads task.code 0 start → IsFitCode p 0 0 (at 0 (Loop counter turns start))
       round_fits p counter turns start room back = line_fits p 0 0 (Loop counter turns start) (omega arith) (omega arith) (omega arith) (omega arith, tt) tt refl (λ h. (back, (h, tt)))
 
-      for_fits : (v turns p counter : ℕ) (inner : List Line) → IsScalar vars v → counter < task.cells → IsFitCode (p + 4) 0 0 inner
+      for_fits : (v turns p counter : ℕ) (inner : List Line) → HasWord vars v → counter < task.cells → IsFitCode (p + 4) 0 0 inner
           → IsFitCode p 0 0 (at 0 (Const (pos 0)) ++ (at 1 (Put counter) ++ (at 0 (Get counter) ++ (at 1 (Put (place vars v)) ++ (inner ++ at 0 (Loop counter turns (p + 2)))))))
       for_fits v turns p counter inner there room body =
           let round = at 0 (Loop counter turns (p + 2)) in

@@ -8,7 +8,7 @@ use Rattle.tcel_core.specs.Contents.{loops}
 use Rattle.tcel_core.specs.Language.{Block, for_loop}
 use Rattle.tcel_core.specs.Meaning.{exec, with_cells}
 use Rattle.tcel_core.specs.Outcome.{Memory, Outcome, rounds}
-use Rattle.tcel_core.specs.Scope.{ActFits, IsScalar}
+use Rattle.tcel_core.specs.Scope.{ActFits, HasWord}
 use Rattle.tcel_core.proofs.Remain.{takes, takes-append}
 use Rattle.tcel_image.specs.declared.costs.CostKey.TheVariants as keys
 use Rattle.tcel_image.specs.declared.image.Instr.TheVariants.{Const, Get, Loop, Put}
@@ -45,7 +45,7 @@ rounds_and_one (suc n) round entry end events w =
       joined = w.joined ∙ ap (λ l. l ++ w.after) w.one.joined ∙ append_assoc w.one.before w.one.after w.after;
     }
 
-module _ (s : Setting) (l : LoopIn s) (v : ℕ) (scalar : IsScalar s.vars v) (get : LineAt s l.top 0 (Get l.counter)) (put : LineAt s (l.top + 1) 1 (Put (place s.vars v))) (at_body : l.top + 1 + 1 ≡ l.body_at) where
+module _ (s : Setting) (l : LoopIn s) (v : ℕ) (scalar : HasWord s.vars v) (get : LineAt s l.top 0 (Get l.counter)) (put : LineAt s (l.top + 1) 1 (Put (place s.vars v))) (at_body : l.top + 1 + 1 ≡ l.body_at) where
   open s use {costs, ranges, vars, frame, stack}
   open l use {turns, are_turns, body, counter, low, at_low, top, body_at, floor}
 

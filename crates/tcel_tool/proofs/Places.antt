@@ -1,12 +1,14 @@
 -- The places of names in lists, and of variables in cells.
-use Rattle.std.proofs.Common.{◌≡◌, ℕ, zero, suc, ◌+◌, ◌<◌, ◌≤◌, Bool, true, false, cond, not, List, [], ◌∷◌, ◌++◌, length, take, get_or, Option, Some, None, refl, sym, subst, arith}
+use Rattle.std.proofs.Common.{◌≡◌, ℕ, zero, suc, ◌+◌, ◌<◌, ◌≤◌, Bool, true, false, cond, not, List, [], ◌∷◌, ◌++◌, length, take, Option, Some, None, refl, sym, ap, ◌∙◌, subst, inl, inr, arith}
 use Rattle.std.specs.Prelude.{nat_eq, nat_lt, Contains, position, is_some, IsSome, IsTrue, count_by, map, filter}
 use Rattle.std.specs.Bool.{Decides}
 use Rattle.std.specs.Cmp.Lexicographic.{pointwise}
 use Rattle.std.proofs.lemmas.Slice.Eq.{bytes_eq-Decides}
+use Rattle.std.proofs.lemmas.Bool.{cases_lt, true≢false}
 use Rattle.std.proofs.lemmas.Bool.Decides.{Decides-ltb}
+use Rattle.std.proofs.lemmas.Cmp.{nat_list_eq_equiv}
 use Rattle.std.proofs.lemmas.List.{length-map}
-use Rattle.std.proofs.lemmas.List.Sums.{length-filter}
+use Rattle.std.proofs.lemmas.List.Sums.{fails_before_first, length-filter}
 use Rattle.tcel_core.specs.declared.var.Var.{Var}
 use Rattle.tcel_core.specs.declared.var.Keep.{Keep}
 use Rattle.tcel_core.specs.Cells.{all_words, words_of, place}
@@ -20,22 +22,16 @@ use Rattle.tcel_tool.specs.PlainTree.{index_of, is_kind, names_of, variable_name
 same : (name other : List ℕ) → Decides (pointwise nat_eq name other) (name ≡ other)
 same name other = bytes_eq-Decides name other
 
-later : (b : Bool) (m n : ℕ) → m < n → cond (not b) (1 + m) 0 < suc n
-later true m n lt = omega arith
-later false m n lt = omega arith
-
-here : (b : Bool) (m n : ℕ) → b ≡ true → cond (not b) (1 + m) 0 < suc n
-here true m n is = omega arith
-here false m n is = absurd (cc)
-
-below_at : (name : List ℕ) (names : List (List ℕ)) (k : ℕ) → k < length names → get_or names k name ≡ name → index_of name names < length names
-below_at name [] k lt is = absurd (omega arith)
-below_at name (x ∷ xs) zero lt is = here (pointwise nat_eq name x) (index_of name xs) (length xs) ((same name x).1 (sym is))
-below_at name (x ∷ xs) (suc k) lt is = later (pointwise nat_eq name x) (index_of name xs) (length xs) (below_at name xs k (omega arith) is)
-
 -- a name that is there has a place
 pub below : (name : List ℕ) (names : List (List ℕ)) → Contains names name → index_of name names < length names
-below name names h = below_at name names h.0 h.1 h.2
+below name names has =
+    let p : List ℕ → Bool = pointwise nat_eq name in
+    elim (cases_lt has.0 (index_of name names)) [
+      | inl before ↦
+          let here : p name ≡ false = ap p (sym has.2) ∙ fails_before_first p names has.0 name before in
+          absurd (true≢false (sym (nat_list_eq_equiv.refl name) ∙ here))
+      | inr past ↦ let within = has.1 in omega arith
+    ]
 
 found : (name x : List ℕ) (xs : List (List ℕ)) (b : Bool) (m n : ℕ) → Decides b (name ≡ x) → cond (not b) (1 + m) 0 < suc n → (m < n → Contains xs name) → Contains (x ∷ xs) name
 found name x xs true m n is lt rest = (0, omega arith, sym (is.0 refl))

@@ -1,12 +1,8 @@
 -- Every trace of a plain program's image meets the program.
-use Rattle.std.proofs.Common.{◌≡◌, ℕ, zero, suc, ◌+◌, ◌*◌, ◌<◌, ◌≤◌, ℤ, List, [], ◌∷◌, ◌++◌, length, length-append, map, Bool, refl, sym, ap, ◌∙◌, subst, arith, inl, inr}
+use Rattle.std.proofs.Common.{◌≡◌, ℕ, zero, suc, ◌+◌, ◌*◌, ◌<◌, ◌≤◌, ℤ, List, [], ◌∷◌, ◌++◌, length, length-append, map, refl, sym, ap, ◌∙◌, subst, arith, inl, inr}
 use Rattle.std.specs.Prelude.{◌⊎◌}
-use Rattle.std.specs.Prelude.{nat_eq, Contains}
-use Rattle.std.specs.Cmp.Lexicographic.{pointwise}
-use Rattle.std.proofs.lemmas.Bool.{cases_lt, true≢false}
-use Rattle.std.proofs.lemmas.Cmp.{nat_list_eq_equiv}
+use Rattle.std.specs.Prelude.{Contains}
 use Rattle.std.proofs.lemmas.List.{length-map}
-use Rattle.std.proofs.lemmas.List.Sums.{fails_before_first}
 use Rattle.tcel_core.specs.declared.var.Keep.{Keep}
 use Rattle.tcel_core.specs.declared.var.Var.{Var}
 use Rattle.tcel_core.specs.declared.var.VarKind.{VarKind}
@@ -19,7 +15,7 @@ use Rattle.std.proofs.Common.{false}
 use Rattle.tcel_num.specs.Plan.{Plan, Point, frame}
 use Rattle.tcel_num.specs.Schedule.{served}
 use Rattle.tcel_core.specs.Meets.{Meets}
-use Rattle.tcel_core.specs.Scope.{ActIsUntimed, ActFits, Fits, IsUntimed, IsScalar, IsSound}
+use Rattle.tcel_core.specs.Scope.{ActIsUntimed, ActFits, Fits, IsUntimed, HasWord, IsSound}
 use Rattle.tcel_image.specs.declared.costs.Costs.{Costs}
 use Rattle.tcel_image.specs.Costs.{CostsInRange}
 use Rattle.tcel_image.specs.Machine.{Streams, trace}
@@ -37,22 +33,12 @@ use Rattle.tcel_tool.specs.declared.plain_tree.Operand.{Operand}
 use Rattle.tcel_tool.specs.declared.plain_tree.Operand.TheVariants as operands
 use Rattle.std.specs.List.{AllByRecursion, AllZip}
 use Rattle.tcel_num.proofs.ServedAlone.{served_whole}
+use Rattle.tcel_tool.proofs.Places.{below}
 use Rattle.tcel_tool.proofs.BoundEvents.{EachPoint, no_points, untimed_loops}
 use Rattle.tcel_tool.proofs.WholeFrames.{Reaches}
 use Rattle.tcel_tool.proofs.WholeSets.{Serves, set_meets}
 
 -- ---- plain programs fit
-
--- a declared name is one of the list
-index_within : (name : List ℕ) (names : List (List ℕ)) → Contains names name → index_of name names < length names
-index_within name names has =
-    let p : List ℕ → Bool = pointwise nat_eq name in
-    elim (cases_lt has.0 (index_of name names)) [
-      | inl before ↦
-          let here : p name ≡ false = ap p (sym has.2) ∙ fails_before_first p names has.0 name before in
-          absurd (true≢false (sym (nat_list_eq_equiv.refl name) ∙ here))
-      | inr there ↦ let within = has.1 in omega arith
-    ]
 
 -- scalars
 abbrev AreScalars : List Var → Type 0
@@ -67,18 +53,18 @@ scalars-of : (keep : Keep) (names : List (List ℕ)) → AreScalars (map (var_of
 scalars-of keep [] = tt
 scalars-of keep (name ∷ names) = (refl, scalars-of keep names)
 
-scalar_within : (vars : List Var) (v : ℕ) → AreScalars vars → v < length vars → IsScalar vars v
+scalar_within : (vars : List Var) (v : ℕ) → AreScalars vars → v < length vars → HasWord vars v
 scalar_within [] v are h = absurd (omega arith)
 scalar_within (x ∷ vars) zero are h = let one : words_of x.kind ≡ 1 = ap words_of are.0 in omega arith
 scalar_within (x ∷ vars) (suc v) are h = let rest = scalar_within vars v are.1 (omega arith) in omega arith
 
-declared_within : (decls : List PlainDecl) (name : List ℕ) → Contains (variable_names decls) name → IsScalar (vars_of decls) (index_of name (variable_names decls))
+declared_within : (decls : List PlainDecl) (name : List ℕ) → Contains (variable_names decls) name → HasWord (vars_of decls) (index_of name (variable_names decls))
 declared_within decls name has =
     let states = names_of kinds.State decls in
     let locals = names_of kinds.Local decls in
     let many = length-append states locals in
     let vars = length-append (map (var_of Keep.State) states) (map (var_of Keep.Local) locals) in
-    let within = index_within name (variable_names decls) has in
+    let within = below name (variable_names decls) has in
     scalar_within (vars_of decls) (index_of name (variable_names decls))
     (scalars-append (map (var_of Keep.State) states) (map (var_of Keep.Local) locals) (scalars-of Keep.State states) (scalars-of Keep.Local locals))
     (omega (arith, length-map states (var_of Keep.State), length-map locals (var_of Keep.Local)))

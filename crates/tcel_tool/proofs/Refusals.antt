@@ -13,7 +13,7 @@ use Rattle.tcel_tool.specs.declared.plain_tree.PlainTree.{PlainTree}
 use Rattle.tcel_tool.specs.declared.status.Status.{Status}
 use Rattle.tcel_tool.specs.declared.status.Status.TheVariants as statuses
 use Rattle.tcel_tool.specs.declared.status.LimitFault.TheVariants as limits
-use Rattle.tcel_tool.specs.Answer.{Accepts, Answers, Compiles, Demands, Overloads, IsLateRefusal, IsLoadRefusal, Refuses, RefusesTarget, both_loads, load_of, program_limit, target_limit, program_load, target_load, unit_target}
+use Rattle.tcel_tool.specs.Answer.{Accepts, Compiles, Demands, Overloads, IsLateRefusal, IsLoadRefusal, Refuses, RefusesTarget, both_loads, load_of, program_limit, target_limit, program_load, target_load, unit_target}
 
 -- the program can't be loaded
 pub refused_program : (program target : List ℕ) (told : List ℕ → Option (List ℕ)) (old new : List Load) (status : Status)
@@ -161,18 +161,3 @@ refused_late program target told old middle new tree status first second accepts
       | inl e ↦ inl (e.0, record { accepts = accepts; unit = unit; demands = demands_of tree accepts.plain; above = e.1 })
       | inr e ↦ inr e
     ])
-
--- a refusal writes nothing, so its cause holds whatever out takes
-pub cause_of : (program target : Option (List ℕ)) (All Some_of : List ℕ → Type 0) (status : Status) → Answers program target (λ text. ⊥) (λ text. ⊥) status → Answers program target All Some_of status
-cause_of program target All Some_of statuses.Ok h = absurd h.2
-cause_of program target All Some_of (statuses.Overload cycles hyper) h = h
-cause_of program target All Some_of (statuses.Limit (limits.Bytes w l)) h = h
-cause_of program target All Some_of (statuses.Limit (limits.Count kind value)) h = h
-cause_of program target All Some_of (statuses.Image fail) h = h
-cause_of program target All Some_of (statuses.Flaw flaw) h = h
-cause_of program target All Some_of (statuses.Script fail) h = h
-cause_of program target All Some_of statuses.Words h = h
-cause_of program target All Some_of (statuses.ReadFault w) h = h
-cause_of program target All Some_of statuses.WriteFault h = absurd h.2
-cause_of program target All Some_of statuses.NoMemory h = h
-cause_of program target All Some_of (statuses.Beyond w) h = h

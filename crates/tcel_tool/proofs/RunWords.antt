@@ -1,10 +1,9 @@
 -- The words of `run`.
-use Rattle.std.proofs.Common.{◌≡◌, refl, ℕ, List, length, Option, Some, None, subst, ap, arith}
+use Rattle.std.proofs.Common.{◌≡◌, refl, ℕ, List, Option, Some, None, subst}
 use Rattle.tcel_io.specs.Load.{Load}
 use Rattle.tcel_tool.specs.declared.status.Status.{Status}
 use Rattle.tcel_tool.specs.declared.status.Status.TheVariants as statuses
-use Rattle.tcel_tool.specs.Answer.{IsCompile, AreLoads}
-use Rattle.tcel_tool.specs.RunAnswer.{AreRunLoads, IsRun}
+use Rattle.tcel_tool.specs.RunAnswer.{AreRunLoads}
 
 -- what holds exactly of the number that there is
 abbrev pub IsExactly : Option ℕ → (ℕ → Type 0) → Type 0
@@ -22,14 +21,6 @@ of_this P found exact = (exact found).0 refl
 pub of_no_other : (P : ℕ → Type 0) (found n : ℕ) → IsExactly (Some found) P → P n → found ≡ n
 of_no_other P found n exact h = let e : Some found ≡ Some n = (exact n).1 h in cc
 
--- the words of `compile` are not those of `run`
-pub not_both : (words : List (List ℕ)) (ticks : ℕ) → IsCompile words → IsRun words ticks → ⊥
-not_both words ticks compile run = omega (arith, run.0, ap length compile.2)
-
 -- a run never tells that its words have no form
 pub not_words : (image script : List ℕ) (status : Status) (loads : List Load) → AreRunLoads image script status loads → status ≡ statuses.Words → ⊥
 not_words image script status loads h e = subst (λ s. AreRunLoads image script s loads) e h
-
--- nor does `compile`
-pub compile_not_words : (program target : List ℕ) (status : Status) (loads : List Load) → AreLoads program target status loads → status ≡ statuses.Words → ⊥
-compile_not_words program target status loads h e = subst (λ s. AreLoads program target s loads) e h

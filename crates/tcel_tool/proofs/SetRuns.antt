@@ -37,11 +37,6 @@ of_task n past now r (Some what) =
     let e : Entry = record { time = now + 1; task = n; frame = r.ended; what = what } in
     filter-append (λ (e : Entry). e.task == n) past (e ∷ []) ∙ ap (λ l. entries_of n past ++ l) (cond-true _ _ _ (eq-eqb n n refl))
 
--- an entry, if there is one, is of another task
-abbrev IsOther : ℕ → Option Entry → Type 0
-IsOther n None = Unit {0}
-IsOther n (Some e) = n < e.task
-
 of_other : (n : ℕ) (past : List Entry) (entry : Option Entry) → (below : (e : Entry) → entry ≡ Some e → e.task ≡ n → ⊥) →
     entries_of n (past ++ option_to_list entry) ≡ entries_of n past
 of_other n past None below = filter-append (λ (e : Entry). e.task == n) past [] ∙ append-nil (entries_of n past)

@@ -1,4 +1,4 @@
-ghost use Rattle.std.specs.Prelude.{◌≡◌, [], ◌∷◌, map, length, string_bytes};
+ghost use Rattle.std.specs.Prelude.{◌≡◌, [], ◌∷◌, map, string_bytes};
 ghost use Rattle.std.specs.Fmt.{decimal};
 ghost use Rattle.tcel_io.specs.InTurn.{ArePut, seen};
 ghost use Rattle.tcel_tool.specs.FaultLine.{fault_pieces, flaw_pieces, flaw_text, image_pieces, limit_pieces, script_pieces, word_at};

@@ -1,7 +1,6 @@
 ghost use Rattle.std.specs.Prelude.{◌≡◌, ◌≤◌, ◌↔◌, length, map, IsTrue, IfOk, Contains, position, count_by, nat_eq};
 ghost use Rattle.std.specs.Cmp.Lexicographic.{pointwise};
-ghost use Rattle.tcel_tool.specs.PlainTree.{is_kind, names_of, variable_names, index_of};
-ghost use Rattle.tcel_tool.specs.declared.plain_tree.PlainKind.TheVariants as kinds;
+ghost use Rattle.tcel_tool.specs.PlainTree.{is_kind, names_of, variable_names};
 
 use crate::plain_tree::{PlainDecl, PlainKind};
 use std::alloc::Global;

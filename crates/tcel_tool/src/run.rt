@@ -8,8 +8,6 @@ ghost use Rattle.tcel_io.specs.Shelf.{TellsTheSame};
 ghost use Rattle.tcel_io.specs.Taken.{Takes, TakesPrefix};
 ghost use Rattle.tcel_io.specs.declared.loaded.Outcome.TheVariants.{Done};
 ghost use Rattle.tcel_image.specs.Machine.{Streams};
-ghost use Rattle.tcel_image.specs.Reading.{reading};
-ghost use Rattle.tcel_image.specs.Spelling.{InRange, spelling};
 ghost use Rattle.tcel_image.specs.declared.image.Image.{Image};
 ghost use Rattle.tcel_machine.specs.Run.{loaded, after_tick};
 ghost use Rattle.tcel_script.specs.Script.{script_of};

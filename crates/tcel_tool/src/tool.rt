@@ -1,4 +1,4 @@
-ghost use Rattle.std.specs.Prelude.{◌≡◌, ◌↔◌, ◌⊎◌, ℕ, List, ◌++◌, map, length, string_bytes, IsTrue, IfSome, Some};
+ghost use Rattle.std.specs.Prelude.{◌≡◌, ◌↔◌, ◌⊎◌, ℕ, List, map, length, string_bytes, IsTrue, IfSome, Some};
 ghost use Rattle.std.specs.List.{concat};
 ghost use Rattle.tcel_io.specs.Count.{Rose, PutsAtMost};
 ghost use Rattle.tcel_io.specs.InTurn.{AreTaken, AreCutOff, ArePut, seen};

@@ -10,8 +10,8 @@ use Rattle.tcel_image.specs.declared.flaw.FlawKind.TheVariants.{BadPeriod, SameN
 use Rattle.tcel_image.specs.declared.image.Image.{Image}
 use Rattle.tcel_image.specs.declared.image.ImageTask.{ImageTask}
 use Rattle.tcel_image.specs.declared.image.Line.{Line}
-use Rattle.tcel_image.specs.Validity.{line_has, task_has, has_flaw, kind_number, in_code, IsValid}
-use Rattle.tcel_verify.specs.First.{IsFirstKind, head_has, code_has, FirstInCode, FirstInTask}
+use Rattle.tcel_image.specs.Validity.{line_has, task_has, has_flaw, in_code, IsValid}
+use Rattle.tcel_verify.specs.First.{head_has, code_has, FirstInCode, FirstInTask}
 
 -- ---- code
 
@@ -42,16 +42,6 @@ none_in_code task lines place e past so_far kind at =
 
 -- ---- a task
 
-head_there : (before : List ImageTask) (task : ImageTask) (kind : FlawKind) → head_has before task kind ≡ true → task_has before task kind 0 ≡ true
-head_there before task BadPeriod h = h
-head_there before task SameName h = h
-head_there before task _ h = absurd (false≢true h)
-
-head_in : (before : List ImageTask) (task : ImageTask) (kind : FlawKind) → head_has before task kind ≡ true → in_code kind ≡ 0
-head_in before task BadPeriod h = refl
-head_in before task SameName h = refl
-head_in before task _ h = absurd (false≢true h)
-
 head_clear : (before : List ImageTask) (task : ImageTask) (kind : FlawKind) (place : ℕ) → in_code kind ≡ 0 → head_has before task kind ≡ false
     → task_has before task kind place ≡ false
 head_clear before task BadPeriod place e h = and_right _ _ h
@@ -73,25 +63,6 @@ code_there : (before : List ImageTask) (task : ImageTask) (kind : FlawKind) (pla
 code_there before task BadPeriod place h = absurd (false≢true (sym (never (slice_get task.code place)) ∙ h))
 code_there before task SameName place h = absurd (false≢true (sym (never (slice_get task.code place)) ∙ h))
 code_there before task _ place h = (h, refl)
-
-first_number : (kind : FlawKind) → in_code kind ≡ 0 → kind_number kind ≤ 1
-first_number BadPeriod e = omega arith
-first_number SameName e = omega arith
-first_number _ e = absurd (omega arith)
-
-pub found_in_head : (before : List ImageTask) (task : ImageTask) (number : ℕ) (kind : FlawKind) → IsFirstKind (head_has before task) (Some kind)
-    → FirstInTask before task number (Some (record { kind = kind; task = number; pc = 0 }))
-found_in_head before task number kind found =
-    let in_head = head_in before task kind found.0 in
-    record {
-      task_of = refl;
-      there = head_there before task kind found.0;
-      first = λ other e p.
-          ⊎_elim (λ lt. absurd (omega arith))
-          (⊎_elim (λ lt. absurd (omega arith))
-          (⊎_elim (λ lt. absurd (omega arith)) (λ last. head_clear before task other.kind other.pc (last.1 ∙ in_head) (found.1 other.kind last.3))))
-          p;
-    }
 
 pub found_behind_head : (before : List ImageTask) (task : ImageTask) (number : ℕ) (found : Option Flaw) → ((kind : FlawKind) → head_has before task kind ≡ false)
     → FirstInCode task number found → FirstInTask before task number found

@@ -1,4 +1,4 @@
-ghost use Rattle.std.specs.Prelude.{◌≡◌, ◌+◌, ◌<◌, ◌≤◌, ◌^◌, ◌||◌, ◌==◌, not, nat_lt, length, option_to_list};
+ghost use Rattle.std.specs.Prelude.{◌≡◌, ◌+◌, ◌<◌, ◌≤◌, ◌||◌, ◌==◌, nat_lt, length, option_to_list};
 ghost use Rattle.std.specs.List.{list_any};
 ghost use Rattle.tcel_num.specs.Arithmetic.{is_unary};
 ghost use Rattle.tcel_image.specs.Instructions.{targets, next_places, pops, pushes};

@@ -1,4 +1,4 @@
-ghost use Rattle.std.specs.Prelude.{◌≡◌, ◌++◌, ◌||◌, map};
+ghost use Rattle.std.specs.Prelude.{◌≡◌, ◌++◌, ◌||◌};
 ghost use Rattle.std.specs.List.{list_any};
 ghost use Rattle.tcel_image.specs.Validity.{same_name, has_twice, own_names, has_same_name};
 ghost use Rattle.tcel_image.specs.declared.image.ImageState.{ImageState};
