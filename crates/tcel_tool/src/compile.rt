@@ -124,8 +124,7 @@ fn tree_of(alloc: Global, text: &[u8]) -> Result<PlainTree, Status>
         Err(ReadFail::NoMemory) => return Err(Status::NoMemory),
         Err(ReadFail::NotPlain) => return Err(Status::Beyond { word: 1 }),
     };
-    let is_canonical = is_text_of(alloc, text, &tree)?;
-    if is_canonical && is_plain(&tree) {
+    if is_plain(&tree) && is_text_of(alloc, text, &tree)? {
         Ok(tree)
     } else {
         Err(Status::Beyond { word: 1 })

@@ -81,8 +81,12 @@ impl Part for PlainDecl {
 
     ghost read_so = { decl_at };
 
+    #[tactic(auto, unfolding(crate::specs::Reading::decl_at))]
     fn read(word: &[u8], cursor: &mut Cursor<'_>) -> Option<PlainDecl> {
-        read_decl(word, cursor)
+        let kind = read_kind(word, cursor)?;
+        let name = cursor.name()?;
+        cursor.expect(b";")?;
+        Some(PlainDecl { kind, name })
     }
 }
 
@@ -91,8 +95,15 @@ impl Part for PlainStmt {
 
     ghost read_so = { stmt_at };
 
+    #[tactic(auto, unfolding(crate::specs::Reading::stmt_at))]
     fn read(word: &[u8], cursor: &mut Cursor<'_>) -> Option<PlainStmt> {
-        read_stmt(word, cursor)
+        if word == b"receive".as_slice() {
+            return read_receive(cursor);
+        }
+        if word == b"send".as_slice() {
+            return read_send(cursor);
+        }
+        read_assign(word, cursor)
     }
 }
 
@@ -124,18 +135,6 @@ fn read_parts<T: Part>(
     }
 }
 
-/// The declaration that begins with this word.
-#[tactic(auto, unfolding(crate::specs::Reading::decl_at))]
-fn read_decl(word: &[u8], cursor: &mut Cursor<'_>) -> Option<PlainDecl>
-    ensures read { Gives result (words_of cursor.new.rest.now) (decl_at word.now (words_of cursor.old.rest.now)) }
-    ensures never_longer { length cursor.new.rest.now ≤ length cursor.old.rest.now }
-{
-    let kind = read_kind(word, cursor)?;
-    let name = cursor.name()?;
-    cursor.expect(b";")?;
-    Some(PlainDecl { kind, name })
-}
-
 /// What is declared behind this word.
 #[tactic(auto, unfolding(crate::specs::Reading::kind_at))]
 fn read_kind(word: &[u8], cursor: &mut Cursor<'_>) -> Option<PlainKind>
@@ -157,21 +156,6 @@ fn read_kind(word: &[u8], cursor: &mut Cursor<'_>) -> Option<PlainKind>
         return Some(PlainKind::Local);
     }
     None
-}
-
-/// The statement that begins with this word.
-#[tactic(auto, unfolding(crate::specs::Reading::stmt_at))]
-fn read_stmt(word: &[u8], cursor: &mut Cursor<'_>) -> Option<PlainStmt>
-    ensures read { Gives result (words_of cursor.new.rest.now) (stmt_at word.now (words_of cursor.old.rest.now)) }
-    ensures never_longer { length cursor.new.rest.now ≤ length cursor.old.rest.now }
-{
-    if word == b"receive".as_slice() {
-        return read_receive(cursor);
-    }
-    if word == b"send".as_slice() {
-        return read_send(cursor);
-    }
-    read_assign(word, cursor)
 }
 
 #[tactic(auto, unfolding(crate::specs::Reading::receive_at))]
