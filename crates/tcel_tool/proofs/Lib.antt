@@ -40,3 +40,10 @@ pub mod Kept
 pub mod RunLines
 pub mod RunWords
 pub mod Written
+pub mod FrontWords
+pub mod Readable
+pub mod PartsRead
+pub mod CanonicalWords
+pub mod LinesRead
+pub mod TreeRead
+pub mod TextLaws

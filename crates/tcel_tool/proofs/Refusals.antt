@@ -1,5 +1,5 @@
 -- How the stages of `compile` refuse, one after another.
-use Rattle.std.proofs.Common.{◌≡◌, ◌≢◌, ℕ, ◌+◌, ◌<◌, ◌≤◌, List, [], ◌∷◌, ◌++◌, Option, refl, sym, ap, ◌∙◌, subst, inl, inr, length, append_assoc, append-nil, arith, ◌⊎◌}
+use Rattle.std.proofs.Common.{◌≡◌, ◌≢◌, ℕ, ◌+◌, ◌<◌, ◌≤◌, List, [], ◌∷◌, ◌++◌, Option, Some, None, refl, sym, ap, ◌∙◌, subst, inl, inr, length, append_assoc, append-nil, arith, ◌⊎◌}
 use Rattle.std.specs.Prelude.{IfSome}
 use Rattle.tcel_num.specs.Plan.{Plan}
 use Rattle.tcel_num.proofs.Hyperperiods.{own_hyperperiod, own_demand}
@@ -13,7 +13,7 @@ use Rattle.tcel_tool.specs.declared.plain_tree.PlainTree.{PlainTree}
 use Rattle.tcel_tool.specs.declared.status.Status.{Status}
 use Rattle.tcel_tool.specs.declared.status.Status.TheVariants as statuses
 use Rattle.tcel_tool.specs.declared.status.LimitFault.TheVariants as limits
-use Rattle.tcel_tool.specs.Answer.{Accepts, Compiles, Demands, Overloads, IsLateRefusal, IsLoadRefusal, Refuses, RefusesTarget, both_loads, load_of, program_limit, target_limit, program_load, target_load, unit_target}
+use Rattle.tcel_tool.specs.Answer.{Accepts, Compiles, HasNoPlainText, IsTextRefusal, Demands, Overloads, IsLateRefusal, IsLoadRefusal, Refuses, RefusesTarget, both_loads, load_of, program_limit, target_limit, program_load, target_load, unit_target}
 
 -- the program can't be loaded
 pub refused_program : (program target : List ℕ) (told : List ℕ → Option (List ℕ)) (old new : List Load) (status : Status)
@@ -45,18 +45,30 @@ refused_program program target told old new statuses.WriteFault h = absurd h
 refused_program program target told old new statuses.NoMemory h = record { added = []; loads = inl refl; adds = h; order = λ two. absurd (omega arith); cause = tt }
 refused_program program target told old new (statuses.Beyond w) h = absurd h
 
+no_text : (told : Option (List ℕ)) (text : List ℕ) → IfSome told (λ t. text ≡ t) → HasNoPlainText (Some text) → HasNoPlainText told
+no_text None text same h = λ tree plain writable. tt
+no_text (Some t) text same h = λ tree plain writable e. h tree plain writable (same ∙ e)
+
+-- what was loaded is what the file is told to be
+pub told_refusal : (told : Option (List ℕ)) (text : List ℕ) (status : Status) → IfSome told (λ t. text ≡ t) → IsTextRefusal (Some text) status → IsTextRefusal told status
+told_refusal told text status same h =
+    elim h [
+      | inl e ↦ inl e
+      | inr e ↦ inr (e.0, no_text told text same e.1)
+    ]
+
 -- the loaded program isn't accepted
 pub refused_text : (program target : List ℕ) (told : List ℕ → Option (List ℕ)) (old new : List Load) (status : Status)
-    → (status ≡ statuses.NoMemory) ⊎ (status ≡ statuses.Beyond 1) → AddsLoads (program_load program Done ∷ []) old new → Refuses program target told old new status
+    → IsTextRefusal (told program) status → AddsLoads (program_load program Done ∷ []) old new → Refuses program target told old new status
 refused_text program target told old new status h adds =
     elim h [
       | inl e ↦
           subst (Refuses program target told old new) (sym e)
           (let r : Refuses program target told old new statuses.NoMemory = record { added = program_load program Done ∷ []; loads = inr (inl refl); adds = adds; order = λ two. absurd (omega arith); cause = tt } in r)
       | inr e ↦
-          subst (Refuses program target told old new) (sym e)
+          subst (Refuses program target told old new) (sym e.0)
           (let r : Refuses program target told old new (statuses.Beyond 1) =
-          record { added = program_load program Done ∷ []; loads = (program_limit, inl (refl, refl, refl)); adds = adds; order = λ two. absurd (omega arith); cause = inl refl } in r)
+          record { added = program_load program Done ∷ []; loads = (program_limit, inl (refl, refl, refl)); adds = adds; order = λ two. absurd (omega arith); cause = inl (refl, e.1) } in r)
     ]
 
 loads_in_turn : (a b : Load) (old middle new : List Load) → AddsLoads (a ∷ []) old middle → AddsLoads (b ∷ []) middle new → AddsLoads (a ∷ b ∷ []) old new

@@ -120,6 +120,10 @@ pub record HasOtherTarget (program target : Option (List ℕ)) (tree : PlainTree
   pub accepts : Accepts program tree
   pub other : IfSome target (λ bytes. bytes ≢ unit_target)
 
+-- no plain tree, whose names are names and whose numbers fit 64 bits, has the program's bytes, where they are told, as its canonical text
+abbrev pub HasNoPlainText : Option (List ℕ) → Type 0
+HasNoPlainText program = (tree : PlainTree) → IsPlain tree → IsWritable tree → IfSome program (λ bytes. bytes ≢ text_of tree)
+
 -- when a call gives this status, for the bytes of its files where they are told, what out took whole, and what it took in part
 abbrev pub Answers : Option (List ℕ) → Option (List ℕ) → (List ℕ → Type 0) → (List ℕ → Type 0) → Status → Type 0
 Answers program target TookAll TookSome statuses.Ok = (tree : PlainTree) × Compiles program target tree × TookAll (image_bytes tree)
@@ -127,7 +131,8 @@ Answers program target TookAll TookSome (statuses.Overload cycles hyper) = (tree
 Answers program target TookAll TookSome (statuses.Limit (limits.Bytes word limit)) =
     ((word ≡ 1) × IfSome program (λ bytes. limit < length bytes)) ⊎ ((word ≡ 2) × IfSome target (λ bytes. limit < length bytes))
 Answers program target TookAll TookSome statuses.WriteFault = (tree : PlainTree) × Compiles program target tree × TookSome (image_bytes tree)
-Answers program target TookAll TookSome (statuses.Beyond word) = (word ≡ 1) ⊎ ((word ≡ 2) × ((tree : PlainTree) × HasOtherTarget program target tree))
+Answers program target TookAll TookSome (statuses.Beyond word) =
+    ((word ≡ 1) × HasNoPlainText program) ⊎ ((word ≡ 2) × ((tree : PlainTree) × HasOtherTarget program target tree))
 Answers program target TookAll TookSome _ = Unit {0}
 
 -- whether a call with this status puts something into out
@@ -143,6 +148,10 @@ pub record Refuses (program target : List ℕ) (told : List ℕ → Option (List
   pub adds : AddsLoads added old new
   pub order : SecondAfter (AcceptsSome (told program)) added
   pub cause : Answers (told program) (told target) (λ text. ⊥) (λ text. ⊥) status
+
+-- the loaded program isn't accepted: it is the canonical text of no plain tree, or there is no memory
+abbrev pub IsTextRefusal : Option (List ℕ) → Status → Type 0
+IsTextRefusal program status = (status ≡ statuses.NoMemory) ⊎ ((status ≡ statuses.Beyond 1) × HasNoPlainText program)
 
 -- one load gives no bytes, with this status of its word
 abbrev pub IsLoadRefusal : List ℕ → ℕ → ℕ → (List ℕ → Option (List ℕ)) → List Load → List Load → Status → Type 0

@@ -1,9 +1,10 @@
 -- The canonical text of a plain tree.
-use Rattle.std.specs.Prelude.{ℕ, List, ◌++◌, codes}
+use Rattle.std.specs.Prelude.{◌≡◌, ℕ, List, ◌++◌, codes}
 use Rattle.std.specs.List.{flat_map}
 use Rattle.std.specs.Fmt.{decimal, signed_decimal}
 use Rattle.tcel_num.specs.declared.op.Op.{Op}
 use Rattle.tcel_num.specs.declared.op.Op.TheVariants as ops
+use Rattle.tcel_tool.specs.PlainTree.{IsPlain, IsWritable}
 use Rattle.tcel_tool.specs.declared.plain_tree.PlainTree.{PlainTree}
 use Rattle.tcel_tool.specs.declared.plain_tree.PlainDecl.{PlainDecl}
 use Rattle.tcel_tool.specs.declared.plain_tree.PlainKind.{PlainKind}
@@ -53,3 +54,7 @@ every_line tree = codes "  every " ++ (decimal tree.period ++ codes " {\n")
 abbrev pub text_of : PlainTree → List ℕ
 text_of tree =
     task_line tree ++ (flat_map decl_text tree.decls ++ (every_line tree ++ (flat_map stmt_text tree.body ++ codes "  }\n}\n")))
+
+-- two plain programs with one canonical text are one
+abbrev pub TextsTellPrograms : Type 0
+TextsTellPrograms = (a b : PlainTree) → IsPlain a → IsWritable a → IsPlain b → IsWritable b → text_of a ≡ text_of b → a ≡ b

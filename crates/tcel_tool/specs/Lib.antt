@@ -8,9 +8,11 @@ pub mod FaultLine
 pub mod Layout
 pub mod Lines
 pub mod PlainTree
+pub mod Reading
 pub mod RunAnswer
 pub mod StraightPlan
 pub mod Walks
 pub mod WholePlan
+pub mod Words
 pub mod WrittenImages
 pub mod ExitStatus

@@ -1,4 +1,4 @@
-ghost use Rattle.std.specs.Prelude.{◌≡◌, ◌++◌, All, OnSome, IfSome, IsTrue};
+ghost use Rattle.std.specs.Prelude.{◌≡◌, ◌↔◌, ◌++◌, All, IfOk, IsTrue, OnOk, codes};
 ghost use Rattle.std.specs.List.{flat_map};
 ghost use Rattle.tcel_num.specs.Name.{IsName};
 ghost use Rattle.tcel_tool.specs.CanonicalText.{text_of, task_line, every_line, decl_text, kind_text, stmt_text, expr_text, sign_text, operand_text};
@@ -6,81 +6,90 @@ ghost use Rattle.tcel_tool.specs.PlainTree.{ExprIsWritable, IsWritable, OperandI
 
 use crate::plain_tree::{Operand, PlainDecl, PlainExpr, PlainKind, PlainStmt, PlainTree};
 use itoa::{Buffer, Integer};
-use tcel_num::Op;
+use std::alloc::Global;
+use tcel_num::{Name, NoMemory, Op};
 
 /// Whether this is the canonical text of the tree (docs/language.md).
-pub(crate) fn is_text_of(text: &[u8], tree: &PlainTree) -> bool
-    ensures text { IsTrue result → text.now ≡ text_of tree.now }
-    ensures writable { IsTrue result → IsWritable tree.now }
+pub(crate) fn is_text_of(alloc: Global, text: &[u8], tree: &PlainTree) -> Result<bool, NoMemory>
+    ensures text { IfOk result (λ same. IsTrue same ↔ (text.now ≡ text_of tree.now)) }
+    ensures writable { OnOk result (IsWritable tree.now) }
 {
-    match behind_tree(text, tree) {
-        Some(rest) => rest.is_empty(),
-        None => false,
-    }
+    let canonical = text_of(alloc, tree)?;
+    Ok(text == canonical.as_slice())
 }
 
-/// What stands behind the piece, where the text begins with it.
-fn behind<'a>(text: &'a [u8], piece: &[u8]) -> Option<&'a [u8]>
-    ensures { IfSome result (λ rest. text.now ≡ piece.now ++ rest.now) }
+/// The canonical text of the tree.
+fn text_of(alloc: Global, tree: &PlainTree) -> Result<Vec<u8>, NoMemory>
+    ensures text { IfOk result (λ text. text.items ≡ text_of tree.now) }
+    ensures writable { OnOk result (IsWritable tree.now) }
 {
-    text.strip_prefix(piece)
+    let mut text = Vec::new(alloc);
+    put_task_line(&mut text, tree)?;
+    put_decls(&mut text, tree.decls.as_slice())?;
+    put_every_line(&mut text, tree)?;
+    put_body(&mut text, tree.body.as_slice())?;
+    put(&mut text, b"  }\n}\n")?;
+    Ok(text)
 }
 
-fn behind_number<I: Integer>(text: &[u8], number: I) -> Option<&[u8]>
-    ensures { IfSome result (λ rest. text.now ≡ I.text number ++ rest.now) }
+fn put(out: &mut Vec<u8>, piece: &[u8]) -> Result<(), NoMemory>
+    ensures { OnOk result (out.new.items ≡ out.old.items ++ piece.now) }
 {
-    behind(text, Buffer::new().format(number).as_bytes())
+    out.extend_from_slice(piece)?;
+    Ok(())
 }
 
-fn behind_tree<'a>(text: &'a [u8], tree: &PlainTree) -> Option<&'a [u8]>
-    ensures text { IfSome result (λ rest. text.now ≡ text_of tree.now ++ rest.now) }
-    ensures writable { OnSome result (IsWritable tree.now) }
+fn put_number<I: Integer>(out: &mut Vec<u8>, number: I) -> Result<(), NoMemory>
+    ensures { OnOk result (out.new.items ≡ out.old.items ++ I.text number) }
 {
-    let rest = behind_task_line(text, tree)?;
-    let rest = behind_decls(rest, tree.decls.as_slice())?;
-    let rest = behind_every_line(rest, tree)?;
-    let rest = behind_body(rest, tree.body.as_slice())?;
-    behind(rest, b"  }\n}\n")
+    put(out, Buffer::new().format(number).as_bytes())
 }
 
-fn behind_task_line<'a>(text: &'a [u8], tree: &PlainTree) -> Option<&'a [u8]>
-    ensures text { IfSome result (λ rest. text.now ≡ task_line tree.now ++ rest.now) }
-    ensures writable { OnSome result (IsName tree.now.name) }
+fn put_task_line(out: &mut Vec<u8>, tree: &PlainTree) -> Result<(), NoMemory>
+    ensures text { OnOk result (out.new.items ≡ out.old.items ++ task_line tree.now) }
+    ensures writable { OnOk result (IsName tree.now.name) }
 {
-    let rest = behind(text, b"task ")?;
-    let rest = behind(rest, tree.name.bytes())?;
-    let rest = behind(rest, b" priority ")?;
-    let rest = behind_number(rest, tree.priority)?;
-    behind(rest, b" {\n")
+    put(out, b"task ")?;
+    put(out, tree.name.bytes())?;
+    put(out, b" priority ")?;
+    put_number(out, tree.priority)?;
+    put(out, b" {\n")
 }
 
-fn behind_every_line<'a>(text: &'a [u8], tree: &PlainTree) -> Option<&'a [u8]>
-    ensures { IfSome result (λ rest. text.now ≡ every_line tree.now ++ rest.now) }
+fn put_every_line(out: &mut Vec<u8>, tree: &PlainTree) -> Result<(), NoMemory>
+    ensures { OnOk result (out.new.items ≡ out.old.items ++ every_line tree.now) }
 {
-    let rest = behind(text, b"  every ")?;
-    let rest = behind_number(rest, tree.period)?;
-    behind(rest, b" {\n")
+    put(out, b"  every ")?;
+    put_number(out, tree.period)?;
+    put(out, b" {\n")
 }
 
-fn behind_decls<'a>(text: &'a [u8], decls: &[PlainDecl]) -> Option<&'a [u8]>
-    ensures text { IfSome result (λ rest. text.now ≡ flat_map decl_text decls.now ++ rest.now) }
-    ensures writable { OnSome result (All (λ d. IsName d.name) decls.now) }
+fn put_decls(out: &mut Vec<u8>, decls: &[PlainDecl]) -> Result<(), NoMemory>
+    ensures text { OnOk result (out.new.items ≡ out.old.items ++ flat_map decl_text decls.now) }
+    ensures writable { OnOk result (All (λ d. IsName d.name) decls.now) }
 {
-    let mut rest = text;
     for decl in decls {
-        rest = behind_decl(rest, decl)?;
+        put_decl(out, decl)?;
     }
-    Some(rest)
+    Ok(())
 }
 
-fn behind_decl<'a>(text: &'a [u8], decl: &PlainDecl) -> Option<&'a [u8]>
-    ensures text { IfSome result (λ rest. text.now ≡ decl_text decl.now ++ rest.now) }
-    ensures writable { OnSome result (IsName decl.now.name) }
+fn put_decl(out: &mut Vec<u8>, decl: &PlainDecl) -> Result<(), NoMemory>
+    ensures text { OnOk result (out.new.items ≡ out.old.items ++ decl_text decl.now) }
+    ensures writable { OnOk result (IsName decl.now.name) }
 {
-    let rest = behind(text, b"  ")?;
-    let rest = behind(rest, kind_text(decl.kind))?;
-    let rest = behind(rest, decl.name.bytes())?;
-    behind(rest, b";\n")
+    put(out, b"  ")?;
+    put(out, kind_text(decl.kind))?;
+    put_last(out, &decl.name)
+}
+
+/// A name at the end of its line.
+fn put_last(out: &mut Vec<u8>, name: &Name) -> Result<(), NoMemory>
+    ensures text { OnOk result (out.new.items ≡ out.old.items ++ (name.now ++ codes ";\n")) }
+    ensures writable { OnOk result (IsName name.now) }
+{
+    put(out, name.bytes())?;
+    put(out, b";\n")
 }
 
 fn kind_text(kind: PlainKind) -> &'static [u8]
@@ -94,56 +103,53 @@ fn kind_text(kind: PlainKind) -> &'static [u8]
     }
 }
 
-fn behind_body<'a>(text: &'a [u8], body: &[PlainStmt]) -> Option<&'a [u8]>
-    ensures text { IfSome result (λ rest. text.now ≡ flat_map stmt_text body.now ++ rest.now) }
-    ensures writable { OnSome result (All StmtIsWritable body.now) }
+fn put_body(out: &mut Vec<u8>, body: &[PlainStmt]) -> Result<(), NoMemory>
+    ensures text { OnOk result (out.new.items ≡ out.old.items ++ flat_map stmt_text body.now) }
+    ensures writable { OnOk result (All StmtIsWritable body.now) }
 {
-    let mut rest = text;
     for stmt in body {
-        rest = behind_stmt(rest, stmt)?;
+        put_stmt(out, stmt)?;
     }
-    Some(rest)
+    Ok(())
 }
 
-fn behind_stmt<'a>(text: &'a [u8], stmt: &PlainStmt) -> Option<&'a [u8]>
-    ensures text { IfSome result (λ rest. text.now ≡ stmt_text stmt.now ++ rest.now) }
-    ensures writable { OnSome result (StmtIsWritable stmt.now) }
+fn put_stmt(out: &mut Vec<u8>, stmt: &PlainStmt) -> Result<(), NoMemory>
+    ensures text { OnOk result (out.new.items ≡ out.old.items ++ stmt_text stmt.now) }
+    ensures writable { OnOk result (StmtIsWritable stmt.now) }
 {
-    let rest = behind(text, b"    ")?;
     match stmt {
         PlainStmt::Assign(name, value) => {
-            let rest = behind(rest, name.bytes())?;
-            let rest = behind(rest, b" := ")?;
-            let rest = behind_expr(rest, value)?;
-            behind(rest, b";\n")
+            put(out, b"    ")?;
+            put(out, name.bytes())?;
+            put(out, b" := ")?;
+            put_expr(out, value)?;
+            put(out, b";\n")
         }
         PlainStmt::Receive(name, port) => {
-            let rest = behind(rest, b"receive ")?;
-            let rest = behind(rest, name.bytes())?;
-            let rest = behind(rest, b" from ")?;
-            let rest = behind(rest, port.bytes())?;
-            behind(rest, b";\n")
+            put(out, b"    receive ")?;
+            put(out, name.bytes())?;
+            put(out, b" from ")?;
+            put_last(out, port)
         }
         PlainStmt::Send(value, port) => {
-            let rest = behind(rest, b"send ")?;
-            let rest = behind_expr(rest, value)?;
-            let rest = behind(rest, b" to ")?;
-            let rest = behind(rest, port.bytes())?;
-            behind(rest, b";\n")
+            put(out, b"    send ")?;
+            put_expr(out, value)?;
+            put(out, b" to ")?;
+            put_last(out, port)
         }
     }
 }
 
-fn behind_expr<'a>(text: &'a [u8], expr: &PlainExpr) -> Option<&'a [u8]>
-    ensures text { IfSome result (λ rest. text.now ≡ expr_text expr.now ++ rest.now) }
-    ensures writable { OnSome result (ExprIsWritable expr.now) }
+fn put_expr(out: &mut Vec<u8>, expr: &PlainExpr) -> Result<(), NoMemory>
+    ensures text { OnOk result (out.new.items ≡ out.old.items ++ expr_text expr.now) }
+    ensures writable { OnOk result (ExprIsWritable expr.now) }
 {
     match expr {
-        PlainExpr::One(operand) => behind_operand(text, operand),
+        PlainExpr::One(operand) => put_operand(out, operand),
         PlainExpr::Two(op, left, right) => {
-            let rest = behind_operand(text, left)?;
-            let rest = behind(rest, sign_text(*op))?;
-            behind_operand(rest, right)
+            put_operand(out, left)?;
+            put(out, sign_text(*op))?;
+            put_operand(out, right)
         }
     }
 }
@@ -157,12 +163,12 @@ fn sign_text(op: Op) -> &'static [u8]
     }
 }
 
-fn behind_operand<'a>(text: &'a [u8], operand: &Operand) -> Option<&'a [u8]>
-    ensures text { IfSome result (λ rest. text.now ≡ operand_text operand.now ++ rest.now) }
-    ensures writable { OnSome result (OperandIsWritable operand.now) }
+fn put_operand(out: &mut Vec<u8>, operand: &Operand) -> Result<(), NoMemory>
+    ensures text { OnOk result (out.new.items ≡ out.old.items ++ operand_text operand.now) }
+    ensures writable { OnOk result (OperandIsWritable operand.now) }
 {
     match operand {
-        Operand::Number(number) => behind_number(text, *number),
-        Operand::Var(name) => behind(text, name.bytes()),
+        Operand::Number(number) => put_number(out, *number),
+        Operand::Var(name) => put(out, name.bytes()),
     }
 }

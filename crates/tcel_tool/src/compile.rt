@@ -5,18 +5,17 @@ ghost use Rattle.tcel_io.specs.Reach.{ReachesWithin};
 ghost use Rattle.tcel_io.specs.Shelf.{TellsTheSame};
 ghost use Rattle.tcel_io.specs.Taken.{Takes, TakesPrefix};
 ghost use Rattle.tcel_io.specs.declared.loaded.Outcome.TheVariants.{Done};
-ghost use Rattle.tcel_tool.specs.Answer.{Accepts, AcceptsSome, Answers, AreLoads, Compiles, IsLateRefusal, IsOverload, Refuses, both_loads, image_bytes, load_of, program_load, target_load, unit_target, writes, IsLoadRefusal, RefusesTarget, SecondAfter};
+ghost use Rattle.tcel_tool.specs.Answer.{Accepts, AcceptsSome, Answers, AreLoads, Compiles, IsLateRefusal, IsOverload, IsTextRefusal, Refuses, both_loads, image_bytes, load_of, program_load, target_load, unit_target, writes, IsLoadRefusal, RefusesTarget, SecondAfter};
 ghost use Rattle.tcel_tool.specs.PlainTree.{IsPlain, IsWritable};
 ghost use Rattle.tcel_tool.specs.StraightPlan.{body_cycles};
 ghost use Rattle.tcel_tool.specs.declared.plain_tree.PlainTree.{PlainTree};
 
 use crate::canonical::is_text_of;
-use crate::cursor::ReadFail;
 use crate::generate::image_of;
 use crate::plain_check::is_plain;
 use crate::plain_tree::PlainTree;
 use crate::plan::total_cycles;
-use crate::read::read_tree;
+use crate::read::{ReadFail, read_tree};
 use crate::status::{LimitFault, Status};
 use std::alloc::Global;
 use tcel_image::encode;
@@ -119,14 +118,14 @@ fn load_program<H: Shelf>(alloc: Global, program: &str, shelf: &mut H) -> Result
 /// The plain tree whose canonical text this is.
 fn tree_of(alloc: Global, text: &[u8]) -> Result<PlainTree, Status>
     ensures accepted { IfOk result (Accepts (Some text.now)) }
-    ensures refusal { IfErr result (λ status. (status ≡ Status.NoMemory) ⊎ (status ≡ Status.Beyond 1)) }
+    ensures refusal { IfErr result (IsTextRefusal (Some text.now)) }
 {
     let tree = match read_tree(alloc, text) {
         Ok(tree) => tree,
         Err(ReadFail::NoMemory) => return Err(Status::NoMemory),
         Err(ReadFail::NotPlain) => return Err(Status::Beyond { word: 1 }),
     };
-    if is_text_of(text, &tree) && is_plain(&tree) {
+    if is_plain(&tree) && is_text_of(alloc, text, &tree)? {
         Ok(tree)
     } else {
         Err(Status::Beyond { word: 1 })

@@ -1,19 +1,9 @@
-ghost use Rattle.std.specs.Prelude.{◌<◌, ◌≤◌, length, OnOk};
+ghost use Rattle.std.specs.Prelude.{◌≡◌, ◌<◌, ◌≤◌, ◌||◌, ◌==◌, not, length, OnSome, MatchOption, None, Some};
+ghost use Rattle.std.specs.List.{prefix_len};
+ghost use Rattle.tcel_tool.specs.Reading.{Gives, name_at, name_of, number_at, number_from, past, with_digit, word_at};
+ghost use Rattle.tcel_tool.specs.Words.{ends_word, is_blank, words_of};
 
-use tcel_num::{Name, NoMemory};
-
-/// Why no tree was read.
-#[derive(Clone, Copy, Debug, PartialEq, Eq)]
-pub(crate) enum ReadFail {
-    NotPlain,
-    NoMemory,
-}
-
-impl From<NoMemory> for ReadFail {
-    fn from(_error: NoMemory) -> ReadFail {
-        ReadFail::NoMemory
-    }
-}
+use tcel_num::Name;
 
 /// The words of a text, from the front. A `;` is a word of its own.
 #[derive(Drop)]
@@ -22,66 +12,110 @@ pub(crate) struct Cursor<'a> {
 }
 
 impl<'a> Cursor<'a> {
-    pub(crate) fn new(text: &'a [u8]) -> Cursor<'a> {
+    pub(crate) fn new(text: &'a [u8]) -> Cursor<'a>
+        ensures { result.rest.now ≡ text.now }
+    {
         Cursor { rest: text }
     }
 
     /// The next word.
-    pub(crate) fn word(&mut self) -> Result<&'a [u8], ReadFail>
-        ensures shorter { OnOk result (length self.new.rest.now < length self.old.rest.now) }
+    pub(crate) fn word(&mut self) -> Option<&'a [u8]>
+        ensures next { MatchOption result (word_at (words_of self.old.rest.now) ≡ None)
+            (λ word. word_at (words_of self.old.rest.now) ≡ Some (word.now, words_of self.new.rest.now)) }
+        ensures shorter { OnSome result (length self.new.rest.now < length self.old.rest.now) }
         ensures never_longer { length self.new.rest.now ≤ length self.old.rest.now }
     {
-        let start = self.rest.iter().position(|byte| !is_blank(*byte));
-        let text = &self.rest[start.ok_or(ReadFail::NotPlain)?..];
-        let end = text.iter().position(|byte| ends_word(*byte));
-        let length = end.unwrap_or(text.len()).max(1);
-        let (word, rest) = text.split_at(length);
+        let (_, text) = self.rest.split_at(blanks(self.rest));
+        if text.is_empty() {
+            return None;
+        }
+        let (word, rest) = text.split_at(bytes_in_word(text).max(1));
         self.rest = rest;
-        Ok(word)
+        Some(word)
     }
 
     /// Passes this word over.
-    pub(crate) fn expect(&mut self, wanted: &[u8]) -> Result<(), ReadFail>
+    #[tactic(auto, unfolding(crate::specs::Reading::past))]
+    pub(crate) fn expect(&mut self, wanted: &[u8]) -> Option<()>
+        ensures read { Gives result (words_of self.new.rest.now) (past wanted.now (words_of self.old.rest.now)) }
         ensures never_longer { length self.new.rest.now ≤ length self.old.rest.now }
     {
         if self.word()? == wanted {
-            Ok(())
+            Some(())
         } else {
-            Err(ReadFail::NotPlain)
+            None
         }
     }
 
-    pub(crate) fn name(&mut self) -> Result<Name, ReadFail>
+    #[tactic(auto, unfolding(crate::specs::Reading::name_at))]
+    pub(crate) fn name(&mut self) -> Option<Name>
+        ensures read { Gives result (words_of self.new.rest.now) (name_at (words_of self.old.rest.now)) }
         ensures never_longer { length self.new.rest.now ≤ length self.old.rest.now }
     {
-        Name::new(self.word()?).ok_or(ReadFail::NotPlain)
+        name_of(self.word()?)
     }
 
-    pub(crate) fn number(&mut self) -> Result<u64, ReadFail>
+    #[tactic(auto, unfolding(crate::specs::Reading::number_at))]
+    pub(crate) fn number(&mut self) -> Option<u64>
+        ensures read { Gives result (words_of self.new.rest.now) (number_at (words_of self.old.rest.now)) }
         ensures never_longer { length self.new.rest.now ≤ length self.old.rest.now }
     {
-        number_of(self.word()?).ok_or(ReadFail::NotPlain)
+        number_of(self.word()?)
     }
 }
 
-fn is_blank(byte: u8) -> bool {
+/// How many blanks stand at the front.
+fn blanks(text: &[u8]) -> usize
+    ensures count { result ≡ prefix_len is_blank text.now }
+    ensures within { result ≤ length text.now }
+{
+    text.iter().take_while(|byte| is_blank(**byte)).count()
+}
+
+/// How many bytes at the front end no word.
+fn bytes_in_word(text: &[u8]) -> usize
+    ensures count { result ≡ prefix_len (λ b. not (ends_word b)) text.now }
+    ensures within { result ≤ length text.now }
+{
+    text.iter().take_while(|byte| !ends_word(**byte)).count()
+}
+
+fn is_blank(byte: u8) -> bool
+    ensures { result ≡ is_blank byte }
+{
     byte == b' ' || byte == b'\n'
 }
 
-fn ends_word(byte: u8) -> bool {
+fn ends_word(byte: u8) -> bool
+    ensures { result ≡ ends_word byte }
+{
     is_blank(byte) || byte == b';'
 }
 
+pub(crate) fn name_of(word: &[u8]) -> Option<Name>
+    ensures { result ≡ name_of word.now }
+{
+    Name::new(word)
+}
+
 /// The number that these digits write.
-pub(crate) fn number_of(digits: &[u8]) -> Option<u64> {
-    let mut number = 0u64;
+#[tactic(auto, using(crate::proofs::Readable::number_step, crate::proofs::Readable::number_end))]
+pub(crate) fn number_of(digits: &[u8]) -> Option<u64>
+    ensures { result ≡ number_from 0 digits.now }
+{
+    let mut number = 0;
     for digit in digits {
-        if !digit.is_ascii_digit() {
-            return None;
-        }
-        number = number
-            .checked_mul(10)?
-            .checked_add(u64::from(*digit - b'0'))?;
+        number = with_digit(number, *digit)?;
     }
     Some(number)
+}
+
+#[tactic(auto, unfolding(crate::specs::Reading::with_digit))]
+fn with_digit(number: u64, digit: u8) -> Option<u64>
+    ensures { result ≡ with_digit number digit }
+{
+    if !digit.is_ascii_digit() {
+        return None;
+    }
+    number.checked_mul(10)?.checked_add(u64::from(digit - b'0'))
 }

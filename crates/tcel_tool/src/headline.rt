@@ -1,3 +1,4 @@
+ghost use Rattle.tcel_tool.specs.CanonicalText.{TextsTellPrograms};
 ghost use Rattle.tcel_tool.specs.Headline.{CompiledProgramsMeetTheirSource, WholeSetsMeetTheirSource};
 ghost use Rattle.tcel_tool.specs.WrittenImages.{RunsOfWrittenImagesMeet, WrittenImagesAreTaken};
 
@@ -15,4 +16,9 @@ pub fn written_images_run_as_their_source()
 /// Every run of the image of a set does what the set's source says, in order and in time, where no task is sliced, the demand fits and no point is ever late.
 pub fn whole_sets_meet_their_source()
     ensures headline { WholeSetsMeetTheirSource }
+{}
+
+/// A plain program is told by its canonical text.
+pub fn text_laws()
+    ensures told { TextsTellPrograms }
 {}
