@@ -1,6 +1,6 @@
-ghost use Rattle.std.specs.Prelude.{◌≡◌, ◌+◌, ◌<◌, ◌≤◌, ℕ, List, [], ◌∷◌, IfOk, IfErr, IfSome, OnOk, OnErr, IsTrue, ◌⊎◌, length};
+ghost use Rattle.std.specs.Prelude.{◌≡◌, ◌+◌, ◌<◌, ◌≤◌, ℕ, List, [], ◌∷◌, IfOk, IfErr, IfSome, OnOk, IsTrue, ◌⊎◌, length};
 ghost use Rattle.tcel_io.specs.Count.{Rose, PutsAtMost};
-ghost use Rattle.tcel_io.specs.Load.{AddsLoads, Load, entries_of};
+ghost use Rattle.tcel_io.specs.Load.{AddsLoads, Load};
 ghost use Rattle.tcel_io.specs.Reach.{ReachesWithin};
 ghost use Rattle.tcel_io.specs.Shelf.{TellsTheSame};
 ghost use Rattle.tcel_io.specs.Taken.{Takes, TakesPrefix};
