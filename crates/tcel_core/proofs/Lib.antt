@@ -7,3 +7,4 @@ pub mod StateWords
 pub mod Scope
 pub mod Remain
 pub mod Bodies
+pub mod RowLemmas

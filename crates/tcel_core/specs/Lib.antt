@@ -15,6 +15,7 @@ pub mod Parts
 pub mod Paths
 pub mod Plain
 pub mod Promises
+pub mod Rows
 pub mod Scope
 pub mod SlicingExamples
 pub mod Sound

@@ -10,11 +10,13 @@ mod inputs;
 mod item_set;
 mod laws;
 mod parts;
+mod row;
 mod set;
 mod slicing_examples;
 mod soundness;
 #[cfg(test)]
 mod tests;
+mod uses;
 mod var;
 
 pub use body::{Body, CoreStmt, Item};
@@ -26,7 +28,9 @@ pub use inputs::Inputs;
 pub use item_set::ItemSet;
 pub use laws::{meaning_laws, plain_laws, trace_laws};
 pub use parts::Parts;
+pub use row::Row;
 pub use set::{CoreTask, Set};
 pub use slicing_examples::{fetched_example, saved_example, split_example};
 pub use soundness::sound_examples;
+pub use uses::{add_expr_reads, add_reads, add_writes, has_event};
 pub use var::{Keep, Var, VarKind};

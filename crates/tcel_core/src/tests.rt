@@ -1,6 +1,8 @@
 use crate::examples::example_body;
-use crate::{Inputs, ItemSet};
-use sqlite_items::Items;
+use crate::{
+    Body, CoreExpr, CoreStmt, Inputs, Item, ItemSet, Row, add_reads, add_writes, has_event,
+};
+use sqlite_items::{Boxed, Items};
 use std::test::Fail;
 
 #[test]
@@ -26,5 +28,43 @@ fn items_are_found(rt: HostRuntime) -> Result<(), Fail> {
     assert!(rt; !kept.has(0));
     assert!(rt; kept.has(1));
     assert!(rt; !kept.has(2));
+    Ok(())
+}
+
+#[test]
+fn rows_hold_variables_up_to_255(rt: HostRuntime) {
+    let mut row = Row::empty();
+    for var in [0, 63, 64, 255, 256, 1000] {
+        row.insert(var);
+    }
+    assert_eq!(rt;
+        [0, 1, 63, 64, 65, 255, 256, 1000].map(|var| row.has(var)),
+        [true, false, true, true, false, true, false, false]
+    );
+    assert_eq!(rt; row.bits, [1 | 1 << 63, 1, 0, 1 << 63]);
+    let mut other = Row::empty();
+    other.insert(64);
+    assert!(rt; row.meets(&other));
+    row.remove(&other);
+    assert!(rt; !row.meets(&other) && !row.has(64) && row.has(63));
+    row.add(&other);
+    assert!(rt; row.has(64));
+}
+
+#[test]
+fn a_loop_reads_what_it_writes(rt: HostRuntime) -> Result<(), Fail> {
+    let alloc = rt.alloc();
+    let mut list = Items::new(alloc);
+    list.push(CoreStmt::Item {
+        id: 0,
+        item: Item::Assign(3, CoreExpr::Index(7, Boxed::new(alloc, CoreExpr::Var(9))?)),
+    })?;
+    let turns = Item::For(1, 5, Body { list });
+    let (mut reads, mut writes) = (Row::empty(), Row::empty());
+    add_reads(&turns, &mut reads);
+    add_writes(&turns, &mut writes);
+    assert_eq!(rt; reads.bits[0], 1 << 1 | 1 << 3 | 1 << 7 | 1 << 9);
+    assert_eq!(rt; writes.bits[0], 1 << 1 | 1 << 3);
+    assert!(rt; !has_event(&turns) && has_event(&Item::Receive(0, 0)));
     Ok(())
 }
