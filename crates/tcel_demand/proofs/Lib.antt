@@ -1,6 +1,11 @@
+pub mod Fronts
 pub mod Hyperperiods
+pub mod Levels
 pub mod ReachedInTime
+pub mod Releases
 pub mod Responses
 pub mod Served
 pub mod ServedAlone
 pub mod ServedAtLast
+pub mod WholeHyperperiods
+pub mod Workloads
