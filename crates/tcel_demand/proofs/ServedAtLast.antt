@@ -1,34 +1,18 @@
 -- Where the demand fits, the demand schedule serves each task any number of cycles at last.
-use Rattle.std.proofs.Common.{◌≡◌, ℕ, zero, suc, ◌+◌, ◌*◌, ◌/◌, ◌<◌, ◌≤◌, List, [], ◌∷◌, map, length, get_or, refl, sym, ap, ◌∙◌, subst, arith, Some, inl, inr}
+use Rattle.std.proofs.Common.{◌≡◌, ℕ, zero, suc, ◌+◌, ◌*◌, ◌/◌, ◌<◌, ◌≤◌, List, [], ◌∷◌, length, get_or, refl, sym, ap, ◌∙◌, subst, arith, Some, inl, inr}
 use Rattle.std.specs.Prelude.{slice_get}
-use Rattle.std.proofs.Math.Nat.{mul-le-mul_left, mul-pos, mul-div_left, div-mul-le_self}
-use Rattle.std.proofs.lemmas.Nat.{le-div}
-use Rattle.std.proofs.lemmas.Bool.{cases_lt, cond_both, ltb-true, ltb-false}
+use Rattle.std.proofs.Math.Nat.{mul-le-mul_left, mul-pos, mul-div_left}
+use Rattle.std.proofs.lemmas.Bool.{cases_lt, cond_both, ltb-false}
 use Rattle.std.proofs.lemmas.List.Elements.{All-head, All-tail}
 use Rattle.std.proofs.lemmas.List.Sums.{sum_by-cons}
 use Rattle.tcel_num.specs.Hyperperiod.{IsCommonMultiple, periods_of, demand}
 use Rattle.tcel_num.specs.Plan.{Plan}
 use Rattle.tcel_num.specs.Schedule.{released, is_pending, serve_highest, served_counts, served}
 use Rattle.tcel_demand.proofs.Served.{served_mono, length-served}
-
--- how much all tasks were served
-abbrev sum : List ℕ → ℕ
-sum [] = 0
-sum (n ∷ ns) = n + sum ns
-
--- how much of all tasks is released
-abbrev all_released : List Plan → ℕ → ℕ
-all_released [] time = 0
-all_released (p ∷ plans) time = released p time + all_released plans time
-
--- no task was served more than is released of it
-abbrev AreReleased : List Plan → List ℕ → ℕ → Type 0
-AreReleased [] [] time = Unit {0}
-AreReleased (p ∷ plans) (n ∷ counts) time = (n ≤ released p time) × AreReleased plans counts time
-AreReleased _ _ time = ⊥
+use Rattle.tcel_demand.proofs.Workloads.{sum, all_released, AreReleased, Positive, released_rises, served_within, sum_within}
 
 -- periods of which a time is a whole number
-abbrev Repeat : List Plan → ℕ → Type 0
+abbrev pub Repeat : List Plan → ℕ → Type 0
 Repeat [] hyper = Unit {0}
 Repeat (p ∷ plans) hyper = (hyper ≡ hyper / p.period * p.period) × (0 < p.period) × Repeat plans hyper
 
@@ -39,20 +23,17 @@ one_repeats p hyper k some e =
       | inr none ↦ let zero_period : p.period ≡ 0 = omega arith in let nothing = ap (λ n. k * n) zero_period in absurd (omega arith)
     ]
 
-repeat : (plans : List Plan) (hyper : ℕ) → 0 < hyper → IsCommonMultiple (periods_of plans) hyper → Repeat plans hyper
+pub positive_periods : (plans : List Plan) (hyper : ℕ) → Repeat plans hyper → Positive plans
+positive_periods [] hyper repeats = tt
+positive_periods (p ∷ plans) hyper repeats = (repeats.1, positive_periods plans hyper repeats.2)
+
+pub repeat : (plans : List Plan) (hyper : ℕ) → 0 < hyper → IsCommonMultiple (periods_of plans) hyper → Repeat plans hyper
 repeat [] hyper some common = tt
 repeat (p ∷ plans) hyper some common =
     let P : ℕ → Type 0 = λ period. (k : ℕ) × (hyper ≡ k * period) in
     let first = All-head P p.period (periods_of plans) common in
     let one = one_repeats p hyper first.0 some first.1 in
     (one.0, one.1, repeat plans hyper some (All-tail P p.period (periods_of plans) common))
-
--- more is released as time goes on
-released_rises : (plan : Plan) → 0 < plan.period → (early late : ℕ) → early ≤ late → released plan early ≤ released plan late
-released_rises plan positive early late h =
-    let few = div-mul-le_self early plan.period in
-    let periods = le-div (early / plan.period) late plan.period positive (omega arith) in
-    mul-le-mul_left plan.total (omega arith)
 
 -- what is released in whole stretches
 released_whole : (p : Plan) (hyper k : ℕ) → hyper ≡ hyper / p.period * p.period → 0 < p.period → released p (k * hyper) ≡ k * (p.total * (hyper / p.period)) + p.total
@@ -61,34 +42,6 @@ released_whole p hyper k e positive =
     let all : k * hyper ≡ k * q * p.period = ap (λ n. k * n) e ∙ omega arith in
     let many : k * hyper / p.period ≡ k * q = ap (λ n. n / p.period) all ∙ mul-div_left (k * q) positive in
     ap (λ n. p.total * (n + 1)) many ∙ omega arith
-
--- ---- what is served is released
-
-serve_within : (plans : List Plan) (counts : List ℕ) (time : ℕ) → AreReleased plans counts time → AreReleased plans (serve_highest plans counts time) time
-serve_within [] [] time h = tt
-serve_within [] (n ∷ counts) time h = absurd h
-serve_within (p ∷ plans) [] time h = absurd h
-serve_within (p ∷ plans) (n ∷ counts) time h =
-    cond_both (is_pending p n time) ((n + 1) ∷ counts) (n ∷ serve_highest plans counts time) (λ after. AreReleased (p ∷ plans) after time)
-    (λ is. let less = ltb-true n (released p time) is in (omega arith, h.1)) (λ _. (h.0, serve_within plans counts time h.1))
-
-within_later : (plans : List Plan) (counts : List ℕ) (hyper time : ℕ) → Repeat plans hyper → AreReleased plans counts time → AreReleased plans counts (suc time)
-within_later [] [] hyper time repeats h = tt
-within_later [] (n ∷ counts) hyper time repeats h = absurd h
-within_later (p ∷ plans) [] hyper time repeats h = absurd h
-within_later (p ∷ plans) (n ∷ counts) hyper time repeats h =
-    let more = released_rises p repeats.1 time (suc time) (omega arith) in
-    let now = h.0 in
-    (omega arith, within_later plans counts hyper time repeats.2 h.1)
-
-zeros_within : (plans : List Plan) (time : ℕ) → AreReleased plans (map (λ _. 0) plans) time
-zeros_within [] time = tt
-zeros_within (p ∷ plans) time = (omega arith, zeros_within plans time)
-
-served_within : (plans : List Plan) (hyper : ℕ) → Repeat plans hyper → (time : ℕ) → AreReleased plans (served_counts plans time) time
-served_within plans hyper repeats zero = zeros_within plans 0
-served_within plans hyper repeats (suc time) =
-    within_later plans (served_counts plans (suc time)) hyper time repeats (serve_within plans (served_counts plans time) time (served_within plans hyper repeats time))
 
 -- ---- while one task waits, each tick serves one
 
@@ -113,12 +66,6 @@ busy plans i plan e start (suc k) waits =
     subst (λ time. suc k ≤ sum (served_counts plans time)) on (omega arith)
 
 -- ---- what waits is missing from the sum
-
-sum_within : (plans : List Plan) (counts : List ℕ) (time : ℕ) → AreReleased plans counts time → sum counts ≤ all_released plans time
-sum_within [] [] time h = omega arith
-sum_within [] (n ∷ counts) time h = absurd h
-sum_within (p ∷ plans) [] time h = absurd h
-sum_within (p ∷ plans) (n ∷ counts) time h = let first = h.0 in let rest = sum_within plans counts time h.1 in omega arith
 
 missing : (plans : List Plan) (counts : List ℕ) (time i : ℕ) (plan : Plan) → AreReleased plans counts time → slice_get plans i ≡ Some plan → sum counts + released plan time ≤ all_released plans time + get_or counts i 0
 missing [] counts time i plan h e = absurd cc
@@ -147,7 +94,7 @@ all_whole (p ∷ plans) hyper k repeats =
     let all = ap (λ n. k * n) step in
     omega arith
 
-repeat_at : (plans : List Plan) (hyper i : ℕ) (plan : Plan) → Repeat plans hyper → slice_get plans i ≡ Some plan → (hyper ≡ hyper / plan.period * plan.period) × (0 < plan.period)
+pub repeat_at : (plans : List Plan) (hyper i : ℕ) (plan : Plan) → Repeat plans hyper → slice_get plans i ≡ Some plan → (hyper ≡ hyper / plan.period * plan.period) × (0 < plan.period)
 repeat_at [] hyper i plan repeats e = absurd cc
 repeat_at (p ∷ plans) hyper zero plan repeats e =
     let same : p ≡ plan = cc in
@@ -186,7 +133,7 @@ module _ (plans : List Plan) (hyper : ℕ) (some : 0 < hyper) (common : IsCommon
       omega arith in
       let filled = subst (λ n. k * hyper ≤ sum (served_counts plans n)) at (busy plans i plan e (cycles * hyper) (k * hyper) waits) in
       let repeats = repeat plans hyper some common in
-      let lacks = missing plans (served_counts plans time) time i plan (served_within plans hyper repeats time) e in
+      let lacks = missing plans (served_counts plans time) time i plan (served_within plans (positive_periods plans hyper repeats) time) e in
       let all = all_whole plans hyper (cycles + k) repeats in
       let room : (cycles + k) * demand plans hyper ≤ time = mul-le-mul_left (cycles + k) fits in
       let much = much_released plan hyper (cycles + k) some own.0 own.1 work in
