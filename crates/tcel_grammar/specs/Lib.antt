@@ -2,3 +2,4 @@ pub mod Expressions
 pub mod Statements
 pub mod Programs
 pub mod Faults
+pub mod Machine
