@@ -1,0 +1,9 @@
+pub mod Accepts
+pub mod Complete
+pub mod Tests
+pub mod Languages
+pub mod Sound
+pub mod Finish
+pub mod Weights
+pub mod Counting
+pub mod Places
