@@ -3,6 +3,7 @@ pub mod MeaningLaws
 pub mod PromiseLaws
 pub mod PlainLaws
 mod TraceLemmas
+mod PairTraces
 pub mod StateWords
 pub mod Scope
 pub mod Remain

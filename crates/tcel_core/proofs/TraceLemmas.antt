@@ -106,6 +106,12 @@ other_value m =
     let e : send 0 (pos 6) ≡ send 0 (pos 5) = ap (λ all. what_of_told (slice_get all 1)) (m.keeps 0 behavior refl).follows in
     cc
 
+pub other_state : MeetsCounter (passed_on 3 (pos 5) ++ entry 8 first ∷ entry 9 (end (pos 2 ∷ [])) ∷ []) → ⊥
+unfolding what_of_told int_wrap
+other_state m =
+    let e : end (pos 2 ∷ []) ≡ end (pos 1 ∷ []) = ap (λ all. what_of_told (slice_get all 3)) (m.keeps 0 behavior refl).follows in
+    cc
+
 pub late_event : MeetsCounter (passed_on 11 (pos 5) ++ counted 12 13) → ⊥
 late_event m = let h = (m.keeps 0 behavior refl).in_time.1.0.not_late in omega (arith, h)
 

@@ -1,9 +1,15 @@
 -- Programs, runs and traces on which the definitions are worked out.
-use Rattle.std.specs.Prelude.{ℕ, ℤ, pos, List, [], ◌∷◌, Option, Some, None, codes}
+use Rattle.std.specs.Prelude.{ℕ, ℤ, pos, List, [], ◌∷◌, ◌++◌, Option, Some, None, codes}
 use Rattle.tcel_num.specs.declared.op.Op.TheVariants.{Add, Sub, Div, Rem, Neg, Less, Greater}
 use Rattle.tcel_num.specs.Entry as trace
 use Rattle.tcel_num.specs.Entry.{Entry}
 use Rattle.tcel_num.specs.Plan.{Plan, frame}
+use Rattle.tcel_num.specs.Plan as points
+use Rattle.tcel_core.specs.declared.body.CoreStmt.{CoreStmt}
+use Rattle.tcel_core.specs.declared.body.CoreStmt as stmts
+use Rattle.tcel_core.specs.declared.body.Item as items
+use Rattle.tcel_core.specs.declared.expr.CoreExpr as exprs
+use Rattle.tcel_core.specs.declared.set.CoreTask.{CoreTask}
 use Rattle.tcel_core.specs.declared.event.Event.{Event}
 use Rattle.tcel_core.specs.declared.event.EventKind.TheVariants.{Receive, Send}
 use Rattle.tcel_core.specs.declared.var.Keep.{Keep}
@@ -199,3 +205,117 @@ passed_on time value = entry 1 (trace.receive 0 (pos 5)) ∷ entry time (trace.s
 -- and frame 0 ends at these times with n = 1
 abbrev pub counted : ℕ → ℕ → List Entry
 counted mark end = entry mark trace.first ∷ entry end (trace.end (pos 1 ∷ [])) ∷ []
+
+-- ---- two tasks, one of which waits
+
+-- a task without inputs, with one output
+abbrev pub sender : List ℕ → ℕ → ℕ → ℕ → List Var → Block → Task
+sender name priority period deadline vars body =
+    record { name = name; priority = priority; period = period; deadline = deadline; vars = vars; inputs = []; outputs = codes "o" ∷ []; body = body }
+
+-- each 8 ticks a 1 goes out
+abbrev pub often : Task
+often = sender (codes "hi") 2 8 8 [] (next (item 0 (send one 0)) done)
+
+-- m := 1; do start after 10 finish within 30 { send m to o; }
+abbrev pub waiting : Task
+waiting =
+    sender (codes "lo") 1 40 40 (int_var (codes "m") Keep.Local ∷ [])
+    (next (item 0 (assign 0 one)) (next (timed 1 (window (Some 10) None (Some 30)) (next (item 1 (send (variable 0) 0)) done)) done))
+
+abbrev pub both_plans : List Plan
+both_plans =
+    record { period = 8; total = 4; points = record { prefix = 3; bound = 8; name = frame } ∷ [] }
+    ∷ record {
+      period = 40;
+      total = 14;
+      points = record { prefix = 13; bound = 40; name = frame } ∷ record { prefix = 12; bound = 30; name = points.within 1 } ∷ [];
+    }
+    ∷ []
+
+-- a trace of 24 ticks meets the program of both
+abbrev pub MeetsBoth : List Entry → Type 0
+MeetsBoth trace = Meets (often ∷ waiting ∷ []) both_plans ([] ∷ [] ∷ []) 24 trace
+
+-- an entry of a task's frame
+abbrev pub shown_by : ℕ → ℕ → ℕ → trace.What → Entry
+shown_by time task f what = record { time = time; task = task; frame = f; what = what }
+
+-- what a frame of the first task shows first
+abbrev pub often_front : ℕ → ℕ → List Entry
+often_front f a = shown_by a 0 f (trace.send 0 (pos 1)) ∷ []
+
+-- a frame of the first task, by these times
+abbrev pub often_frame : ℕ → ℕ → ℕ → ℕ → List Entry
+often_frame f a b c = shown_by a 0 f (trace.send 0 (pos 1)) ∷ shown_by b 0 f trace.first ∷ shown_by c 0 f (trace.end []) ∷ []
+
+-- what the second task shows by these times
+abbrev pub waiting_front : ℕ → ℕ → List Entry
+waiting_front a b = shown_by a 1 0 (trace.send 0 (pos 1)) ∷ shown_by b 1 0 trace.first ∷ []
+
+-- ---- a task as code has it
+
+-- n := 1; x := n; x := a[x]; x := -x; x := n + x;
+abbrev pub assigns : List CoreStmt
+assigns =
+    stmts.Item 0 (items.Assign 0 (exprs.Number (pos 1))) ∷ stmts.Item 1 (items.Assign 2 (exprs.Var 0))
+    ∷ stmts.Item 2 (items.Assign 2 (exprs.Index 1 (exprs.Var 2)))
+    ∷ stmts.Item 3 (items.Assign 2 (exprs.Unary Neg (exprs.Var 2)))
+    ∷ stmts.Item 4 (items.Assign 2 (exprs.Binary Add (exprs.Var 0) (exprs.Var 2))) ∷ []
+
+abbrev pub plain_assigns : Block → Block
+plain_assigns rest =
+    next (item 0 (assign 0 one))
+    (next (item 1 (assign 2 (variable 0)))
+    (next (item 2 (assign 2 (element 1 (variable 2))))
+    (next (item 3 (assign 2 (unary Neg (variable 2)))) (next (item 4 (assign 2 (plus 0 (variable 2)))) rest))))
+
+-- a[n] := x; receive x from the second input; send x to the third output; a copy of a to b;
+-- if x { } else { send 1 .. } and a block with all three clauses, a `for` and a `while`
+abbrev pub each_statement : List CoreStmt
+each_statement =
+    stmts.Item 5 (items.AssignAt 1 (exprs.Var 0) (exprs.Var 2)) ∷ stmts.Item 6 (items.Receive 2 1)
+    ∷ stmts.Item 7 (items.Send (exprs.Var 2) 3) ∷ stmts.Item 0 (items.Copy 1 4)
+    ∷ stmts.If 9 (exprs.Var 2) (record { list = [] })
+    (record { list = stmts.Item 8 (items.Send (exprs.Number (pos 1)) 0) ∷ [] })
+    ∷ stmts.Do 1 (Some 11) (Some 12) (Some 13)
+    (record { list = stmts.Item 9 (items.For 2 14 (record { list = stmts.Item 0 (items.Assign 0 (exprs.Var 2)) ∷ [] })) ∷ [] })
+    ∷ stmts.Item 10 (items.While (exprs.Var 0) 15 (record { list = [] })) ∷ []
+
+abbrev pub plain_statements : Block
+plain_statements =
+    next (item 5 (assign_at 1 (variable 0) (variable 2)))
+    (next (item 6 (receive 2 1))
+    (next (item 7 (send (variable 2) 3))
+    (next (item 0 (copy 1 4))
+    (next (choice 9 (variable 2) done (next (item 8 (send one 0)) done))
+    (next
+    (timed 1 (window (Some 11) (Some 12) (Some 13)) (next (item 9 (for_loop 2 14 (next (item 0 (assign 0 (variable 2))) done))) done))
+    (next (item 10 (while_loop (variable 0) 15 done)) done))))))
+
+-- a task of these statements as code has it, and as plain data
+abbrev pub coded : CoreTask
+coded =
+    record {
+      name = codes "t";
+      priority = 3;
+      period = 20;
+      finish = 19;
+      vars = primed_vars;
+      inputs = codes "p" ∷ codes "q" ∷ [];
+      outputs = codes "r" ∷ [];
+      body = record { list = assigns ++ each_statement };
+    }
+
+abbrev pub plainly : Task
+plainly =
+    record {
+      name = codes "t";
+      priority = 3;
+      period = 20;
+      deadline = 19;
+      vars = primed_vars;
+      inputs = codes "p" ∷ codes "q" ∷ [];
+      outputs = codes "r" ∷ [];
+      body = plain_assigns plain_statements;
+    }

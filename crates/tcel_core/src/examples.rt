@@ -1,11 +1,11 @@
 ghost use Rattle.std.specs.Prelude.{◌≡◌, [], ◌∷◌, ◌++◌, pos, negsuc, IfOk, replicate};
-ghost use Rattle.tcel_core.specs.Examples.{MeetsCounter, alarm, alarm_body, array_body, counted, counter, counter_body, counter_streams, counter_vars, edge_body, edge_vars, entry, for_body, loop_vars, memory, nested_body, one, passed_on, plus, primed_vars, sent, shared_first_body, taken, while_body};
+ghost use Rattle.tcel_core.specs.Examples.{MeetsBoth, MeetsCounter, coded, often_frame, often_front, plainly, shown_by, waiting_front, alarm, alarm_body, array_body, counted, counter, counter_body, counter_streams, counter_vars, edge_body, edge_vars, entry, for_body, loop_vars, memory, nested_body, one, passed_on, plus, primed_vars, sent, shared_first_body, taken, while_body};
 ghost use Rattle.tcel_core.specs.Language.{next, done, item, choice, send, assign, number, variable, binary};
 ghost use Rattle.tcel_core.specs.Meaning.{exec};
 ghost use Rattle.tcel_core.specs.Outcome.{event, quiet};
 ghost use Rattle.tcel_core.specs.Frames.{declared_state, frame_of, shown, start_cells};
-ghost use Rattle.tcel_core.specs.Plain.{plain_expr, plain_stmt, plain_body};
-ghost use Rattle.tcel_num.specs.Entry.{first};
+ghost use Rattle.tcel_core.specs.Plain.{plain_expr, plain_stmt, plain_body, plain_task};
+ghost use Rattle.tcel_num.specs.Entry.{first, end};
 ghost use Rattle.tcel_core.specs.declared.event.EventKind.TheVariants.{Receive, Send};
 
 use crate::body::{Body, CoreStmt, Item};
@@ -144,7 +144,12 @@ pub fn frame_examples()
         sent (pos 1) 0 9 ∷ sent (pos 2) 0 30 ∷ [] }
 {}
 
-/// A trace that meets its program, and traces that don't.
+/// A task of every statement and expression, as code has it and as plain data.
+pub fn plain_examples()
+    ensures { plain_task coded ≡ plainly }
+{}
+
+/// Traces that meet their program, and traces that don't.
 pub fn trace_examples()
     ensures meets { MeetsCounter (passed_on 3 (pos 5) ++ counted 8 9) }
     ensures other_value { ¬ (MeetsCounter (passed_on 3 (pos 6) ++ counted 8 9)) }
@@ -152,4 +157,13 @@ pub fn trace_examples()
     ensures no_event { ¬ (MeetsCounter []) }
     ensures no_end { ¬ (MeetsCounter (passed_on 3 (pos 5) ++ entry 8 first ∷ [])) }
     ensures same_time { ¬ (MeetsCounter (passed_on 3 (pos 5) ++ counted 3 9)) }
+    ensures other_state { ¬ (MeetsCounter (passed_on 3 (pos 5) ++ entry 8 first ∷ entry 9 (end (pos 2 ∷ [])) ∷ [])) }
+
+    // Two tasks, of which the second waits until 10 ticks after its release.
+    ensures both { MeetsBoth (often_frame 0 2 3 4 ++ often_frame 1 10 11 12 ++ waiting_front 15 16 ++ often_frame 2 18 19 20 ++ shown_by 21 1 0 (end []) ∷ []) }
+    ensures of_no_task { ¬ (MeetsBoth (shown_by 1 2 0 first ∷ often_frame 0 2 3 4 ++ often_frame 1 10 11 12 ++ waiting_front 15 16 ++ often_frame 2 18 19 20)) }
+    ensures early_event { ¬ (MeetsBoth (often_frame 0 2 3 4 ++ waiting_front 9 16 ++ often_frame 2 18 19 20)) }
+    ensures late_first { ¬ (MeetsBoth (often_frame 0 2 9 10)) }
+    ensures no_first { ¬ (MeetsBoth (often_frame 0 2 3 4 ++ often_frame 1 10 11 12 ++ often_front 2 18)) }
+    ensures other_frame { ¬ (MeetsBoth (often_frame 1 2 3 4)) }
 {}

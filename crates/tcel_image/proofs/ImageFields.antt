@@ -4,12 +4,13 @@ use Rattle.std.specs.Prelude.{nat_eq}
 use Rattle.std.specs.List.{flat_map, AllByRecursion, starts_with}
 use Rattle.std.specs.Int.{w16, w32, IsInRange}
 use Rattle.std.specs.Cmp.Lexicographic.{pointwise}
+use Rattle.std.proofs.Math.Dec.{eqb-suc-zero}
 use Rattle.std.proofs.lemmas.Bool.{eqb-true, and_parts}
 use Rattle.std.proofs.lemmas.List.{append-nil, nil_from_length, take-append-drop}
 use Rattle.std.proofs.lemmas.List.Sums.{sum_by-cons}
 use Rattle.std.proofs.lemmas.List.Elements.{All-from_recursion, recursion_from_All}
-use Rattle.tcel_image.specs.declared.costs.Costs.{Costs}
-use Rattle.tcel_image.specs.declared.costs.CostKey.TheVariants as keys
+use Rattle.tcel_target.specs.declared.costs.Costs.{Costs}
+use Rattle.tcel_target.specs.declared.costs.CostKey.TheVariants as keys
 use Rattle.tcel_image.specs.declared.fault.Fault.{Fault}
 use Rattle.tcel_image.specs.declared.fault.Fault.TheVariants as faults
 use Rattle.tcel_image.specs.declared.image.Image.{Image}
@@ -17,9 +18,9 @@ use Rattle.tcel_image.specs.declared.image.ImageTask.{ImageTask}
 use Rattle.tcel_image.specs.declared.image.ImageState.{ImageState}
 use Rattle.tcel_image.specs.declared.image.StateKind.{StateKind}
 use Rattle.tcel_image.specs.declared.image.StateKind.TheVariants as kinds
-use Rattle.tcel_image.specs.Costs.{CostsInRange, IsCost}
-use Rattle.tcel_image.specs.Spelling.{number, byte, name, names, kind_number, flag, state, states, code, task, costs, magic, spelling, most_words, state_words, StateInRange, StatesInRange, TaskInRange, InRange}
-use Rattle.tcel_image.specs.Reading.{Reader, number_at, many_at, after, ◌>>=◌, done, kind_from, state_at, states_from, states_at, task_at, cost_at, costs_at, magic_at, image_at, ended}
+use Rattle.tcel_target.specs.Costs.{CostsInRange}
+use Rattle.tcel_image.specs.Spelling.{number, byte, name, names, kind_number, flag, state, states, code, task, costs, magic, dispatch, version, spelling, most_words, state_words, StateInRange, StatesInRange, TaskInRange, InRange}
+use Rattle.tcel_image.specs.Reading.{Reader, number_at, many_at, after, ◌>>=◌, done, kind_from, state_at, states_from, states_at, task_at, cost_at, costs_at, dispatch_at, magic_at, image_at, ended}
 use Rattle.tcel_image.proofs.Readers.{IsBytes, Takes, Takes-then, Reads, given, given_value, given_rest, bind_ok, done_reads, bind_reads, as_reads, shorter, cut_in, cut_after}
 use Rattle.tcel_image.proofs.Fields.{number_reads, byte_reads, value_reads, many_reads, wide16, wide32, IsBytes-drop, test_ok}
 use Rattle.tcel_image.proofs.NameFields.{name_reads, names_reads}
@@ -213,13 +214,53 @@ task_reads =
 
 -- ---- images
 
-cost_reads : Reads cost_at (number w32) IsCost
+abbrev IsCycles : ℕ → Type 0
+IsCycles n = IsInRange 1 1000 n
+
+cost_reads : Reads cost_at (number w32) IsCycles
 cost_reads = number_reads w32 (2 ^ 32) 1 1000 wide32 (omega arith)
 
-costs_reads : Reads costs_at costs CostsInRange
+-- the cost of a frame's start in an image of this version
+record HasVersion (v ticks : ℕ) : Type 0 where
+  most : ticks ≤ 1000
+  same : version ticks ≡ v
+
+second_version : (n : ℕ) → 1 ≤ n → version n ≡ 2
+second_version zero some = absurd (omega arith)
+second_version (suc n) some = rw (eqb-suc-zero n) refl
+
+no_dispatch : (n : ℕ) → version n ≡ 1 → n ≡ 0
+no_dispatch zero e = refl
+no_dispatch (suc n) e = absurd (omega (arith, e, second_version (suc n) (omega arith)))
+
+some_dispatch : (n : ℕ) → version n ≡ 2 → 1 ≤ n
+some_dispatch zero e = absurd (omega (arith, e))
+some_dispatch (suc n) e = omega arith
+
+dispatch_is : (n : ℕ) → 1 ≤ n → dispatch n ≡ number w32 n
+dispatch_is zero some = absurd (omega arith)
+dispatch_is (suc n) some = rw (eqb-suc-zero n) refl
+
+dispatch_reads : (v : ℕ) → IsInRange 1 2 v → Reads (dispatch_at v) dispatch (HasVersion v)
+unfolding dispatch_at
+dispatch_reads zero h = absurd (omega (arith, h.0))
+dispatch_reads (suc zero) h =
+    as_reads dispatch (HasVersion 1) (done_reads 0) (λ n is. ap dispatch is)
+    (λ n is. record { most = omega (arith, is); same = ap version is }) (λ n is. no_dispatch n is.same)
+dispatch_reads (suc (suc zero)) h =
+    as_reads dispatch (HasVersion 2) cost_reads (λ n is. dispatch_is n is.0)
+    (λ n is. record { most = is.1; same = second_version n is.0 }) (λ n is. (some_dispatch n is.same, is.most))
+dispatch_reads (suc (suc (suc v))) h = absurd (omega (arith, h.1))
+
+-- a table in an image of this version
+record AreOfVersion (v : ℕ) (c : Costs) : Type 0 where
+  range : CostsInRange c
+  same : version c.dispatch ≡ v
+
+costs_reads : (v : ℕ) → IsInRange 1 2 v → Reads (costs_at v) costs (AreOfVersion v)
 unfolding costs_at
-costs_reads =
-    as_reads costs CostsInRange
+costs_reads v hv =
+    as_reads costs (AreOfVersion v)
     (bind_reads cost_reads (λ (c : Costs). c.const_) (λ const_ h0.
     bind_reads cost_reads (λ (c : Costs). c.load) (λ load h1.
     bind_reads cost_reads (λ (c : Costs). c.store) (λ store h2.
@@ -235,71 +276,47 @@ costs_reads =
     bind_reads cost_reads (λ (c : Costs). c.send) (λ send h12.
     bind_reads cost_reads (λ (c : Costs). c.mark) (λ mark h13.
     bind_reads cost_reads (λ (c : Costs). c.end) (λ end h14.
-    done_reads (record { const_ = const_; load = load; store = store; load_at = load_at; store_at = store_at; arith = arith_; multiply = multiply; divide = divide; jump = jump; branch = branch; loop_ = loop_; receive = receive; send = send; mark = mark; end = end }))
-    (λ x h c e. ap (λ (d : Costs). d.end) e))
-    (λ x h c e. ap (λ (d : Costs). d.mark) e.1))
-    (λ x h c e. ap (λ (d : Costs). d.send) e.1.1))
-    (λ x h c e. ap (λ (d : Costs). d.receive) e.1.1.1))
-    (λ x h c e. ap (λ (d : Costs). d.loop_) e.1.1.1.1))
-    (λ x h c e. ap (λ (d : Costs). d.branch) e.1.1.1.1.1))
-    (λ x h c e. ap (λ (d : Costs). d.jump) e.1.1.1.1.1.1))
-    (λ x h c e. ap (λ (d : Costs). d.divide) e.1.1.1.1.1.1.1))
-    (λ x h c e. ap (λ (d : Costs). d.multiply) e.1.1.1.1.1.1.1.1))
-    (λ x h c e. ap (λ (d : Costs). d.arith) e.1.1.1.1.1.1.1.1.1))
-    (λ x h c e. ap (λ (d : Costs). d.store_at) e.1.1.1.1.1.1.1.1.1.1))
-    (λ x h c e. ap (λ (d : Costs). d.load_at) e.1.1.1.1.1.1.1.1.1.1.1))
-    (λ x h c e. ap (λ (d : Costs). d.store) e.1.1.1.1.1.1.1.1.1.1.1.1))
-    (λ x h c e. ap (λ (d : Costs). d.load) e.1.1.1.1.1.1.1.1.1.1.1.1.1))
-    (λ x h c e. ap (λ (d : Costs). d.const_) e.1.1.1.1.1.1.1.1.1.1.1.1.1.1))
-    (λ c h. refl)
-    (λ c h. elim [
-      | keys.Const ↦ h.0
-      | keys.Load ↦ h.1.0
-      | keys.Store ↦ h.1.1.0
-      | keys.LoadAt ↦ h.1.1.1.0
-      | keys.StoreAt ↦ h.1.1.1.1.0
-      | keys.Arith ↦ h.1.1.1.1.1.0
-      | keys.Multiply ↦ h.1.1.1.1.1.1.0
-      | keys.Divide ↦ h.1.1.1.1.1.1.1.0
-      | keys.Jump ↦ h.1.1.1.1.1.1.1.1.0
-      | keys.Branch ↦ h.1.1.1.1.1.1.1.1.1.0
-      | keys.Loop ↦ h.1.1.1.1.1.1.1.1.1.1.0
-      | keys.Receive ↦ h.1.1.1.1.1.1.1.1.1.1.1.0
-      | keys.Send ↦ h.1.1.1.1.1.1.1.1.1.1.1.1.0
-      | keys.Mark ↦ h.1.1.1.1.1.1.1.1.1.1.1.1.1.0
-      | keys.End ↦ h.1.1.1.1.1.1.1.1.1.1.1.1.1.1.0
-    ])
-    (λ c h. (
-      h keys.Const,
-      (
-        h keys.Load,
-        (
-          h keys.Store,
-          (
-            h keys.LoadAt,
-            (
-              h keys.StoreAt,
-              (
-                h keys.Arith,
-                (
-                  h keys.Multiply,
-                  (
-                    h keys.Divide,
-                    (
-                      h keys.Jump,
-                      (
-                        h keys.Branch,
-                        (h keys.Loop, (h keys.Receive, (h keys.Send, (h keys.Mark, (h keys.End, refl))))),
-                      ),
-                    ),
-                  ),
-                ),
-              ),
-            ),
-          ),
-        ),
-      ),
-    ))
+    bind_reads (dispatch_reads v hv) (λ (c : Costs). c.dispatch) (λ dispatch_ h15.
+    done_reads (record { const_ = const_; load = load; store = store; load_at = load_at; store_at = store_at; arith = arith_; multiply = multiply; divide = divide; jump = jump; branch = branch; loop_ = loop_; receive = receive; send = send; mark = mark; end = end; dispatch = dispatch_ }))
+    (λ x h c e. ap (λ (d : Costs). d.dispatch) e))
+    (λ x h c e. ap (λ (d : Costs). d.end) e.1))
+    (λ x h c e. ap (λ (d : Costs). d.mark) e.1.1))
+    (λ x h c e. ap (λ (d : Costs). d.send) e.1.1.1))
+    (λ x h c e. ap (λ (d : Costs). d.receive) e.1.1.1.1))
+    (λ x h c e. ap (λ (d : Costs). d.loop_) e.1.1.1.1.1))
+    (λ x h c e. ap (λ (d : Costs). d.branch) e.1.1.1.1.1.1))
+    (λ x h c e. ap (λ (d : Costs). d.jump) e.1.1.1.1.1.1.1))
+    (λ x h c e. ap (λ (d : Costs). d.divide) e.1.1.1.1.1.1.1.1))
+    (λ x h c e. ap (λ (d : Costs). d.multiply) e.1.1.1.1.1.1.1.1.1))
+    (λ x h c e. ap (λ (d : Costs). d.arith) e.1.1.1.1.1.1.1.1.1.1))
+    (λ x h c e. ap (λ (d : Costs). d.store_at) e.1.1.1.1.1.1.1.1.1.1.1))
+    (λ x h c e. ap (λ (d : Costs). d.load_at) e.1.1.1.1.1.1.1.1.1.1.1.1))
+    (λ x h c e. ap (λ (d : Costs). d.store) e.1.1.1.1.1.1.1.1.1.1.1.1.1))
+    (λ x h c e. ap (λ (d : Costs). d.load) e.1.1.1.1.1.1.1.1.1.1.1.1.1.1))
+    (λ x h c e. ap (λ (d : Costs). d.const_) e.1.1.1.1.1.1.1.1.1.1.1.1.1.1.1))
+    (λ c h. simp (append_assoc, append-nil))
+    (λ c h. record {
+      range = elim [
+        | keys.Const ↦ h.0
+        | keys.Load ↦ h.1.0
+        | keys.Store ↦ h.1.1.0
+        | keys.LoadAt ↦ h.1.1.1.0
+        | keys.StoreAt ↦ h.1.1.1.1.0
+        | keys.Arith ↦ h.1.1.1.1.1.0
+        | keys.Multiply ↦ h.1.1.1.1.1.1.0
+        | keys.Divide ↦ h.1.1.1.1.1.1.1.0
+        | keys.Jump ↦ h.1.1.1.1.1.1.1.1.0
+        | keys.Branch ↦ h.1.1.1.1.1.1.1.1.1.0
+        | keys.Loop ↦ h.1.1.1.1.1.1.1.1.1.1.0
+        | keys.Receive ↦ h.1.1.1.1.1.1.1.1.1.1.1.0
+        | keys.Send ↦ h.1.1.1.1.1.1.1.1.1.1.1.1.0
+        | keys.Mark ↦ h.1.1.1.1.1.1.1.1.1.1.1.1.1.0
+        | keys.End ↦ h.1.1.1.1.1.1.1.1.1.1.1.1.1.1.0
+        | keys.Dispatch ↦ (omega arith, h.1.1.1.1.1.1.1.1.1.1.1.1.1.1.1.0.most)
+      ];
+      same = h.1.1.1.1.1.1.1.1.1.1.1.1.1.1.1.0.same;
+    })
+    (λ c h. (h.range keys.Const, (h.range keys.Load, (h.range keys.Store, (h.range keys.LoadAt, (h.range keys.StoreAt, (h.range keys.Arith, (h.range keys.Multiply, (h.range keys.Divide, (h.range keys.Jump, (h.range keys.Branch, (h.range keys.Loop, (h.range keys.Receive, (h.range keys.Send, (h.range keys.Mark, (h.range keys.End, (record { most = (h.range keys.Dispatch).1; same = h.same }, refl)))))))))))))))))
 
 same_bytes : (xs ys : List ℕ) → pointwise nat_eq xs ys ≡ true → xs ≡ ys
 same_bytes [] [] h = refl
@@ -328,33 +345,37 @@ magic_again rest = refl
 regroup_five : (a b c d e : List ℕ) → a ++ b ++ c ++ d ++ e ≡ a ++ (b ++ (c ++ (d ++ e)))
 regroup_five a b c d e = simp append_assoc
 
+version_range : (n : ℕ) → IsInRange 1 2 (version n)
+version_range zero = (omega arith, omega arith)
+version_range (suc n) = (omega (arith, second_version (suc n) (omega arith)), omega (arith, second_version (suc n) (omega arith)))
+
 -- the fields behind the magic
 fields_at : Reader Image
-fields_at = number_at w32 1 1 >>= λ v. number_at w32 1 16 >>= λ n. costs_at >>= λ c. many_at task_at n >>= λ ts. done (record { costs = c; tasks = ts })
+fields_at = number_at w32 1 2 >>= λ v. number_at w32 1 16 >>= λ n. costs_at v >>= λ c. many_at task_at n >>= λ ts. done (record { costs = c; tasks = ts })
 
 fields : Image → List ℕ
-fields i = number w32 1 ++ (number w32 (length i.tasks) ++ (costs i.costs ++ flat_map task i.tasks))
+fields i = number w32 (version i.costs.dispatch) ++ (number w32 (length i.tasks) ++ (costs i.costs ++ flat_map task i.tasks))
 
 spelling_is : (i : Image) → spelling i ≡ magic ++ fields i
 unfolding fields
-spelling_is i = regroup_five magic (number w32 1) (number w32 (length i.tasks)) (costs i.costs) (flat_map task i.tasks)
+spelling_is i = regroup_five magic (number w32 (version i.costs.dispatch)) (number w32 (length i.tasks)) (costs i.costs) (flat_map task i.tasks)
 
 fields_reads : Reads fields_at fields InRange
 unfolding fields_at fields
 fields_reads =
     as_reads fields InRange
-    (bind_reads (number_reads w32 (2 ^ 32) 1 1 wide32 (omega arith)) (λ (i : Image). 1)
+    (bind_reads (number_reads w32 (2 ^ 32) 1 2 wide32 (omega arith)) (λ (i : Image). version i.costs.dispatch)
     (λ v hv. bind_reads (number_reads w32 (2 ^ 32) 1 16 wide32 (omega arith)) (λ (i : Image). length i.tasks)
-    (λ n hn. bind_reads costs_reads (λ (i : Image). i.costs)
+    (λ n hn. bind_reads (costs_reads v hv) (λ (i : Image). i.costs)
     (λ c hc. bind_reads (many_reads task_reads n) (λ (i : Image). i.tasks)
     (λ ts hts. done_reads (record { costs = c; tasks = ts }))
     (λ ts hts i e. ap (λ (j : Image). j.tasks) e))
     (λ c hc i e. ap (λ (j : Image). j.costs) e.1))
     (λ n hn i e. e.1.0.0))
-    (λ v hv i e. omega (arith, hv.0, hv.1)))
-    (λ i h. ap (λ (l : List ℕ). number w32 1 ++ (number w32 (length i.tasks) ++ (costs i.costs ++ l))) (sym (append-nil (flat_map task i.tasks))))
-    (λ i h. record { costs = h.1.1.0; count = h.1.0; tasks = h.1.1.1.0.1 })
-    (λ i h. ((omega arith, omega arith), (h.count, (h.costs, ((refl, h.tasks), refl)))))
+    (λ v hv i e. e.1.0.same))
+    (λ i h. ap (λ (l : List ℕ). number w32 (version i.costs.dispatch) ++ (number w32 (length i.tasks) ++ (costs i.costs ++ l))) (sym (append-nil (flat_map task i.tasks))))
+    (λ i h. record { costs = h.1.1.0.range; count = h.1.0; tasks = h.1.1.1.0.1 })
+    (λ i h. (version_range i.costs.dispatch, (h.count, (record { range = h.costs; same = refl }, ((refl, h.tasks), refl)))))
 
 image_at-is : (bytes : List ℕ) → image_at bytes ≡ after (magic_at bytes) (λ m. fields_at)
 unfolding image_at fields_at

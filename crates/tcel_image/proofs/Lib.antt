@@ -1,7 +1,6 @@
 pub mod Fields
 pub mod ImageFields
 pub mod InstrFields
-pub mod Keys
 pub mod Lists
 pub mod Loops
 pub mod NameFields

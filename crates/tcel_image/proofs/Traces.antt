@@ -6,10 +6,10 @@ use Rattle.std.proofs.lemmas.Bool.{cond_both}
 use Rattle.std.proofs.lemmas.List.Elements.{All-nil, All-cons, All-append}
 use Rattle.std.proofs.lemmas.Option.{same_Some, none-some}
 use Rattle.tcel_num.specs.Entry.{Entry, What}
-use Rattle.tcel_image.specs.declared.costs.Costs.{Costs}
+use Rattle.tcel_target.specs.declared.costs.Costs.{Costs}
 use Rattle.tcel_image.specs.declared.image.Image.{Image}
 use Rattle.tcel_image.specs.declared.image.ImageTask.{ImageTask}
-use Rattle.tcel_image.specs.Machine.{Streams, Running, Machine, is_ready, cycle, entry_of, tick, tick_from, runs, after, entries, start, trace}
+use Rattle.tcel_image.specs.Machine.{Streams, Running, Machine, is_ready, own_tick, entry_of, tick, tick_from, runs, after, entries, start, trace}
 
 -- what every entry of a tick is: of one of the tasks, at the tick's end
 record IsOfTick (now n count : ℕ) (e : Entry) : Type 0 where
@@ -27,7 +27,7 @@ tick_entry : (costs : Costs) (now : ℕ) (tasks : List ImageTask) (streams : Str
 tick_entry costs now [] streams n rs = λ e h. absurd (none-some e h)
 tick_entry costs now (task ∷ tasks) streams n [] = λ e h. absurd (none-some e h)
 tick_entry costs now (task ∷ tasks) streams n (r ∷ rs) =
-    let o = cycle costs task (slice_index_or streams n []) now r in
+    let o = own_tick costs task (slice_index_or streams n []) now r in
     let others = tick_from costs now tasks streams (n + 1) rs in
     cond_both (is_ready task now r) (runs now n r o rs) (after r others) (λ t. (e : Entry) → t.entry ≡ Some e → IsOfTick now n (suc (length tasks)) e)
     (λ _ e h. entry_of_tick now n (suc (length tasks)) r o.shown (omega arith) e h)

@@ -1,38 +1,18 @@
 -- Worked examples of the machine: images, the streams of their inputs, and what they show.
 use Rattle.std.specs.Prelude.{ℕ, pos, negsuc, List, [], ◌∷◌, false, codes}
-use Rattle.tcel_num.specs.declared.op.Op.TheVariants.{Add}
+use Rattle.tcel_num.specs.declared.op.Op.TheVariants.{Add, Mul, Div, Neg}
 use Rattle.tcel_num.specs.Entry.{Entry, What, receive, send, first, end}
 use Rattle.tcel_image.specs.Machine.{Streams}
-use Rattle.tcel_image.specs.declared.costs.Costs.{Costs}
+use Rattle.tcel_target.specs.declared.costs.Costs.{Costs}
+use Rattle.tcel_target.specs.Costs.{unit_costs}
 use Rattle.tcel_image.specs.declared.image.Image.{Image}
 use Rattle.tcel_image.specs.declared.image.ImageTask.{ImageTask}
 use Rattle.tcel_image.specs.declared.flaw.Flaw.{Flaw}
 use Rattle.tcel_image.specs.declared.flaw.FlawKind.{FlawKind}
 use Rattle.tcel_image.specs.declared.image.Line.{Line}
 use Rattle.tcel_image.specs.declared.image.Instr.{Instr}
-use Rattle.tcel_image.specs.declared.image.Instr.TheVariants.{Const, Get, Put, Arith, Jump, Receive, Send, Hold, Copy, Mark, End}
+use Rattle.tcel_image.specs.declared.image.Instr.TheVariants.{Const, Get, Put, GetAt, PutAt, Arith, Jump, Branch, Loop, Receive, Send, Hold, Copy, Mark, End}
 use Rattle.tcel_image.specs.declared.image.StateKind.TheVariants.{Int, Bool, Array}
-
--- each instruction takes one cycle
-abbrev pub unit_costs : Costs
-unit_costs =
-    record {
-      const_ = 1;
-      load = 1;
-      store = 1;
-      load_at = 1;
-      store_at = 1;
-      arith = 1;
-      multiply = 1;
-      divide = 1;
-      jump = 1;
-      branch = 1;
-      loop_ = 1;
-      receive = 1;
-      send = 1;
-      mark = 1;
-      end = 1;
-    }
 
 abbrev pub at_depth : ℕ → Instr → Line
 at_depth depth instr = record { instr = instr; depth = depth }
@@ -57,6 +37,10 @@ echo =
           }
           ∷ [];
     }
+
+-- the same on a processor that takes 3 ticks to start a frame
+abbrev pub dispatched_echo : Image
+dispatched_echo = record echo { costs = record unit_costs { dispatch = 3 } }
 
 abbrev pub echo_streams : Streams
 echo_streams = ((pos 5 ∷ pos 6 ∷ []) ∷ []) ∷ []
@@ -103,6 +87,90 @@ held_trace =
     entry 2 0 0 (send 0 (pos 1)) ∷ entry 3 0 0 first ∷ entry 4 0 0 (end []) ∷ entry 10 0 1 (send 0 (pos 1))
     ∷ entry 11 0 1 first ∷ entry 12 0 1 (end []) ∷ entry 15 1 0 (send 0 (pos 1)) ∷ entry 16 1 0 first
     ∷ entry 18 0 2 (send 0 (pos 1)) ∷ entry 19 0 2 first ∷ entry 20 0 2 (end []) ∷ entry 21 1 0 (end []) ∷ []
+
+-- the same tasks, with a tick at the start of each frame
+abbrev pub started : Image
+started = record held { costs = record unit_costs { dispatch = 1 } }
+
+abbrev pub started_trace : List Entry
+started_trace =
+    entry 3 0 0 (send 0 (pos 1)) ∷ entry 4 0 0 first ∷ entry 5 0 0 (end [])
+    ∷ entry 11 0 1 (send 0 (pos 1)) ∷ entry 12 0 1 first ∷ entry 13 0 1 (end [])
+    ∷ entry 16 1 0 (send 0 (pos 1)) ∷ entry 19 0 2 (send 0 (pos 1)) ∷ entry 20 0 2 first
+    ∷ entry 21 0 2 (end []) ∷ entry 22 1 0 first ∷ entry 23 1 0 (end [])
+    ∷ entry 27 0 3 (send 0 (pos 1)) ∷ entry 28 0 3 first ∷ entry 29 0 3 (end []) ∷ []
+
+-- each cost is another
+abbrev pub many_costs : Costs
+many_costs =
+    record {
+      const_ = 1;
+      load = 2;
+      store = 3;
+      load_at = 5;
+      store_at = 4;
+      arith = 6;
+      multiply = 8;
+      divide = 7;
+      jump = 10;
+      branch = 9;
+      loop_ = 11;
+      receive = 12;
+      send = 13;
+      mark = 14;
+      end = 16;
+      dispatch = 15;
+    }
+
+-- a high task that sends the opposite of what it receives, and a low one that fills an array in a loop, copies it, branches on a quotient and waits
+abbrev pub busy : Image
+busy =
+    record {
+      costs = many_costs;
+      tasks =
+          record {
+            name = codes "hi";
+            period = 150;
+            sliced = false;
+            inputs = codes "s" ∷ [];
+            outputs = codes "o" ∷ [];
+            states = [];
+            cells = 1;
+            code =
+                at_depth 0 (Receive 0 0) ∷ at_depth 0 (Get 0) ∷ at_depth 1 (Arith Neg)
+                ∷ at_depth 1 (Send 0) ∷ at_depth 0 Mark ∷ at_depth 0 End ∷ [];
+          }
+          ∷ record {
+            name = codes "lo";
+            period = 400;
+            sliced = false;
+            inputs = [];
+            outputs = codes "o" ∷ [];
+            states = record { name = codes "n"; kind = Int; words = 1; first = pos 7 ∷ [] } ∷ [];
+            cells = 8;
+            code =
+                at_depth 0 (Const (pos 0)) ∷ at_depth 1 (Put 7) ∷ at_depth 0 (Get 7)
+                ∷ at_depth 1 (Get 7) ∷ at_depth 2 (Const (pos 3)) ∷ at_depth 3 (Arith Mul)
+                ∷ at_depth 2 (PutAt 1 3) ∷ at_depth 0 (Loop 7 2 2) ∷ at_depth 0 (Copy 1 4 3)
+                ∷ at_depth 0 (Const (pos 1)) ∷ at_depth 1 (GetAt 4 3)
+                ∷ at_depth 1 (Const (pos 2)) ∷ at_depth 2 (Arith Div) ∷ at_depth 1 (Branch 18)
+                ∷ at_depth 0 (Get 0) ∷ at_depth 1 (Put 0) ∷ at_depth 0 (Hold 200)
+                ∷ at_depth 0 (Jump 20) ∷ at_depth 0 (Const (pos 9)) ∷ at_depth 1 (Put 0)
+                ∷ at_depth 0 (Get 5) ∷ at_depth 1 (Send 0) ∷ at_depth 0 Mark ∷ at_depth 0 End ∷ [];
+          }
+          ∷ [];
+    }
+
+abbrev pub busy_streams : Streams
+busy_streams = ((pos 5 ∷ pos 6 ∷ []) ∷ []) ∷ []
+
+abbrev pub busy_trace : List Entry
+busy_trace =
+    entry 27 0 0 (receive 0 (pos 5)) ∷ entry 48 0 0 (send 0 (negsuc 4)) ∷ entry 62 0 0 first
+    ∷ entry 78 0 0 (end []) ∷ entry 177 0 1 (receive 0 (pos 6)) ∷ entry 198 0 1 (send 0 (negsuc 5))
+    ∷ entry 212 0 1 first ∷ entry 228 0 1 (end []) ∷ entry 300 1 0 (send 0 (pos 3))
+    ∷ entry 327 0 2 (receive 0 (pos 0)) ∷ entry 348 0 2 (send 0 (pos 0)) ∷ entry 362 0 2 first
+    ∷ entry 378 0 2 (end []) ∷ entry 392 1 0 first ∷ entry 408 1 0 (end (pos 7 ∷ [])) ∷ []
 
 -- a high task of period 4 that does nothing, and a low one of period 6 that receives once
 abbrev pub preempted : Image

@@ -3,7 +3,7 @@ use Rattle.std.specs.Prelude.{ℕ, ◌+◌, ◌-◌, ◌*◌, List, [], ◌∷�
 use Rattle.tcel_num.specs.declared.op.Op.{Op}
 use Rattle.tcel_num.specs.declared.op.Op.TheVariants.{Mul, Div, Rem}
 use Rattle.tcel_num.specs.Arithmetic.{is_unary}
-use Rattle.tcel_image.specs.declared.costs.Costs.{Costs}
+use Rattle.tcel_target.specs.declared.costs.Costs.{Costs}
 use Rattle.tcel_image.specs.declared.image.Instr.{Instr}
 use Rattle.tcel_image.specs.declared.image.Instr.TheVariants.{Const, Get, Put, GetAt, PutAt, Arith, Jump, Branch, Loop, Receive, Send, Hold, Copy, Mark, End}
 use Rattle.tcel_image.specs.declared.image.Line.{Line}

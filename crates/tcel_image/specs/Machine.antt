@@ -1,10 +1,10 @@
--- The tick machine: any number of tasks under preemptive fixed priorities, one cycle of one instruction a tick.
+-- The tick machine: any number of tasks under preemptive fixed priorities. A tick is one of a frame's start, or one cycle of one instruction.
 use Rattle.std.specs.Prelude.{ℕ, zero, suc, ◌+◌, ◌-◌, ◌*◌, ◌/◌, ℤ, pos, ◌+ℤ◌, Bool, nat_lt, nat_le, int_lt, if◌then◌else◌, List, [], ◌∷◌, ◌++◌, length, map, take, replicate, slice_set, slice_get, slice_index, slice_index_or, Option, Some, None, option_to_list}
 use Rattle.std.specs.List.{flat_map}
 use Rattle.tcel_num.specs.declared.op.Op.{Op}
 use Rattle.tcel_num.specs.Arithmetic.{is_unary, unary_value, binary_value, holds, wrapped}
 use Rattle.tcel_num.specs.Entry.{Entry, What, receive, send, first, end}
-use Rattle.tcel_image.specs.declared.costs.Costs.{Costs}
+use Rattle.tcel_target.specs.declared.costs.Costs.{Costs}
 use Rattle.tcel_image.specs.declared.image.Image.{Image}
 use Rattle.tcel_image.specs.declared.image.ImageTask.{ImageTask}
 use Rattle.tcel_image.specs.declared.image.ImageState.{ImageState}
@@ -25,6 +25,8 @@ pub record Running : Type 0 where
   pub stack : List ℤ
   -- where it is in its code
   pub place : ℕ
+  -- the ticks that it has spent on the current frame's start
+  pub dispatched : ℕ
   -- the cycles that it has spent on the current instruction
   pub spent : ℕ
   -- the frames that it has ended
@@ -53,6 +55,7 @@ start_task task =
       cells = first_cells task;
       stack = [];
       place = 0;
+      dispatched = 0;
       spent = 0;
       ended = 0;
       taken = map (λ _. 0) task.inputs;
@@ -66,7 +69,7 @@ start image = record { now = 0; tasks = map start_task image.tasks }
 abbrev pub move_to : ℕ → List ℤ → List ℤ → Running → Outcome
 move_to place stack cells task =
     record {
-      task = record { cells = cells; stack = stack; place = place; spent = 0; ended = task.ended; taken = task.taken };
+      task = record task { cells = cells; stack = stack; place = place; spent = 0 };
       shown = None;
     }
 
@@ -78,7 +81,7 @@ go_on stack cells task = move_to (task.place + 1) stack cells task
 abbrev pub show : What → List ℤ → List ℤ → List ℕ → Running → Outcome
 show what stack cells taken task =
     record {
-      task = record { cells = cells; stack = stack; place = task.place + 1; spent = 0; ended = task.ended; taken = taken };
+      task = record task { cells = cells; stack = stack; place = task.place + 1; spent = 0; taken = taken };
       shown = Some what;
     }
 
@@ -111,13 +114,12 @@ abbrev pub end_frame : ℕ → Running → Outcome
 end_frame words task =
     record {
       task =
-          record {
+          record task {
             cells = take words task.cells ++ replicate (length task.cells - words) (pos 0);
-            stack = task.stack;
             place = 0;
+            dispatched = 0;
             spent = 0;
             ended = task.ended + 1;
-            taken = task.taken;
           };
       shown = Some (end (take words task.cells));
     }
@@ -158,19 +160,7 @@ is_last_cycle costs period now instr task = nat_le (cycles costs instr) (task.sp
 
 -- a cycle that is not the instruction's last
 abbrev pub spend : Running → Outcome
-spend task =
-    record {
-      task =
-          record {
-            cells = task.cells;
-            stack = task.stack;
-            place = task.place;
-            spent = task.spent + 1;
-            ended = task.ended;
-            taken = task.taken;
-          };
-      shown = None;
-    }
+spend task = record { task = record task { spent = task.spent + 1 }; shown = None }
 
 -- a cycle of this instruction; outside the code, where no valid image leads, nothing is done
 abbrev pub cycle_of : Costs → ImageTask → List (List ℤ) → ℕ → Option Line → Running → Outcome
@@ -184,6 +174,15 @@ cycle_of costs image_task inputs now (Some line) task =
 abbrev pub cycle : Costs → ImageTask → List (List ℤ) → ℕ → Running → Outcome
 cycle costs image_task inputs now task =
     cycle_of costs image_task inputs now (slice_get image_task.code task.place) task
+
+-- a tick of the current frame's start
+abbrev pub dispatch : Running → Outcome
+dispatch task = record { task = record task { dispatched = task.dispatched + 1 }; shown = None }
+
+-- a tick of the task: one of its frame's start until that is done, and then a cycle of its instruction
+abbrev pub own_tick : Costs → ImageTask → List (List ℤ) → ℕ → Running → Outcome
+own_tick costs image_task inputs now task =
+    if nat_lt task.dispatched costs.dispatch then dispatch task else cycle costs image_task inputs now task
 
 -- whether a frame of the task is released and not ended
 abbrev pub is_ready : ImageTask → ℕ → Running → Bool
@@ -203,16 +202,16 @@ entry_of now number task (Some what) = Some (record { time = now + 1; task = num
 abbrev pub after : Running → Ticked → Ticked
 after task ticked = record { tasks = task ∷ ticked.tasks; entry = ticked.entry }
 
--- the tasks where the first of them has a cycle
+-- the tasks where the first of them has the tick
 abbrev pub runs : ℕ → ℕ → Running → Outcome → List Running → Ticked
 runs now number task outcome others =
     record { tasks = outcome.task ∷ others; entry = entry_of now number task outcome.shown }
 
--- a tick of these tasks, numbered from this number: the first that is ready has a cycle
+-- a tick of these tasks, numbered from this number: the first that is ready has it
 abbrev pub tick_from : Costs → ℕ → List ImageTask → Streams → ℕ → List Running → Ticked
 tick_from costs now (image_task ∷ image_tasks) streams number (task ∷ tasks) =
     if is_ready image_task now task
-    then runs now number task (cycle costs image_task (slice_index_or streams number []) now task) tasks
+    then runs now number task (own_tick costs image_task (slice_index_or streams number []) now task) tasks
     else after task (tick_from costs now image_tasks streams (number + 1) tasks)
 tick_from costs now _ streams number tasks = record { tasks = tasks; entry = None }
 

@@ -5,7 +5,7 @@ use Rattle.std.specs.Int.{Width, w16, w32, w64, byte_len, from_le_bytes, cast_si
 use Rattle.tcel_num.specs.Name.{may_start, may_follow, is_reserved}
 use Rattle.tcel_num.specs.declared.op.Op.{Op}
 use Rattle.tcel_num.specs.declared.op.Op.TheVariants as ops
-use Rattle.tcel_image.specs.declared.costs.Costs.{Costs}
+use Rattle.tcel_target.specs.declared.costs.Costs.{Costs}
 use Rattle.tcel_image.specs.declared.fault.Fault.{Fault}
 use Rattle.tcel_image.specs.declared.fault.Fault.TheVariants as faults
 use Rattle.tcel_image.specs.declared.fault.ImageFail.{ImageFail}
@@ -222,9 +222,13 @@ task_at = do
 abbrev pub cost_at : Reader ℕ
 cost_at = number_at w32 1 1000
 
--- the costs in the order of the keys
-unfoldable pub costs_at : Reader Costs
-costs_at = do
+-- the cost of a frame's start: version 1 has none, and version 2 has one that isn't 0
+unfoldable pub dispatch_at : ℕ → Reader ℕ
+dispatch_at version = if version == 1 then done 0 else cost_at
+
+-- the costs of instructions in the order of their keys, and that of a frame's start
+unfoldable pub costs_at : ℕ → Reader Costs
+costs_at version = do
   const_ ← cost_at
   load ← cost_at
   store ← cost_at
@@ -240,7 +244,8 @@ costs_at = do
   send ← cost_at
   mark ← cost_at
   end ← cost_at
-  done (record { const_ = const_; load = load; store = store; load_at = load_at; store_at = store_at; arith = arith; multiply = multiply; divide = divide; jump = jump; branch = branch; loop_ = loop_; receive = receive; send = send; mark = mark; end = end })
+  dispatch ← dispatch_at version
+  done (record { const_ = const_; load = load; store = store; load_at = load_at; store_at = store_at; arith = arith; multiply = multiply; divide = divide; jump = jump; branch = branch; loop_ = loop_; receive = receive; send = send; mark = mark; end = end; dispatch = dispatch })
 
 unfoldable pub magic_at : Reader (List ℕ)
 magic_at bytes = if starts_with nat_eq bytes magic then Ok (magic, drop 4 bytes) else Err faults.Magic
@@ -248,9 +253,9 @@ magic_at bytes = if starts_with nat_eq bytes magic then Ok (magic, drop 4 bytes)
 unfoldable pub image_at : Reader Image
 image_at = do
   front ← magic_at
-  version ← number_at w32 1 1
+  version ← number_at w32 1 2
   count ← number_at w32 1 16
-  costs ← costs_at
+  costs ← costs_at version
   tasks ← many_at task_at count
   done (record { costs = costs; tasks = tasks })
 

@@ -1,12 +1,12 @@
 -- How an image is written as bytes, and which images have a spelling.
-use Rattle.std.specs.Prelude.{◌≡◌, ℕ, ℤ, ◌<◌, ◌≤◌, ◌^◌, Bool, true, false, List, [], ◌∷◌, ◌++◌, length, sum_by, All, FitsSigned, codes}
+use Rattle.std.specs.Prelude.{◌≡◌, ℕ, ℤ, ◌<◌, ◌≤◌, ◌^◌, Bool, true, false, List, [], ◌∷◌, ◌++◌, length, sum_by, All, FitsSigned, codes, if◌then◌else◌, ◌==◌}
 use Rattle.std.specs.List.{flat_map}
 use Rattle.std.specs.Int.{Width, w16, w32, w64, to_le_bytes, cast_unsigned, IsInRange}
 use Rattle.tcel_num.specs.Name.{IsName}
 use Rattle.tcel_num.specs.declared.op.Op.{Op}
 use Rattle.tcel_num.specs.declared.op.Op.TheVariants as ops
-use Rattle.tcel_image.specs.declared.costs.Costs.{Costs}
-use Rattle.tcel_image.specs.Costs.{cost_of, all_keys, CostsInRange}
+use Rattle.tcel_target.specs.declared.costs.Costs.{Costs}
+use Rattle.tcel_target.specs.Costs.{cost_of, instruction_keys, CostsInRange}
 use Rattle.tcel_image.specs.declared.image.Image.{Image}
 use Rattle.tcel_image.specs.declared.image.ImageTask.{ImageTask}
 use Rattle.tcel_image.specs.declared.image.ImageState.{ImageState}
@@ -134,13 +134,21 @@ task t = name t.name ++ number w32 t.period ++ byte (flag t.sliced) ++ names t.i
 abbrev pub magic : List ℕ
 magic = codes "TCEL"
 
--- the cycles in the order of the keys
+-- the cost of a frame's start, where there is one
+abbrev pub dispatch : ℕ → List ℕ
+dispatch ticks = if ticks == 0 then [] else number w32 ticks
+
+-- the costs of instructions in the order of their keys, and that of a frame's start
 abbrev pub costs : Costs → List ℕ
-costs c = flat_map (λ key. number w32 (cost_of c key)) all_keys
+costs c = flat_map (λ key. number w32 (cost_of c key)) instruction_keys ++ dispatch c.dispatch
+
+-- the version, by the cost of a frame's start
+abbrev pub version : ℕ → ℕ
+version ticks = if ticks == 0 then 1 else 2
 
 -- the one spelling of an image
 abbrev pub spelling : Image → List ℕ
-spelling i = magic ++ number w32 1 ++ number w32 (length i.tasks) ++ costs i.costs ++ flat_map task i.tasks
+spelling i = magic ++ number w32 (version i.costs.dispatch) ++ number w32 (length i.tasks) ++ costs i.costs ++ flat_map task i.tasks
 
 -- ---- what has a spelling
 

@@ -1,5 +1,5 @@
 -- The 256 bytes of the image `echo` of the worked examples.
-use Rattle.std.specs.Prelude.{ℕ, List, [], ◌∷◌, ◌++◌, codes}
+use Rattle.std.specs.Prelude.{ℕ, List, [], ◌∷◌, ◌++◌, take, drop, codes}
 
 -- a number below 256 in four bytes
 abbrev four : ℕ → List ℕ
@@ -23,3 +23,10 @@ echo_bytes =
     ++ 3 ∷ 0 ∷ 1 ∷ 0 ∷ four 0 ++ four 0 ++ four 0
     ++ 14 ∷ 0 ∷ 0 ∷ 0 ∷ four 0 ++ four 0 ++ four 0
     ++ 15 ∷ 0 ∷ 0 ∷ 0 ∷ four 0 ++ four 0 ++ four 0
+
+-- the bytes with another version, and with a cost of dispatch behind the others
+abbrev pub with_version : ℕ → List ℕ → List ℕ
+with_version version bytes = take 4 bytes ++ four version ++ drop 8 bytes
+
+abbrev pub with_dispatch : ℕ → List ℕ → List ℕ
+with_dispatch ticks bytes = with_version 2 (take 72 bytes ++ four ticks ++ drop 72 bytes)

@@ -1,6 +1,6 @@
-use crate::costs::Costs;
 use sqlite_items::Items;
 use tcel_num::{Name, Op};
+use tcel_target::Costs;
 
 /// What a machine runs: a cost table and its tasks, the highest in priority first (docs/formats.md).
 #[derive(Debug, Drop)]

@@ -1,8 +1,9 @@
-ghost use Rattle.std.specs.Prelude.{◌≡◌, length, Ok};
+ghost use Rattle.std.specs.Prelude.{◌≡◌, length, Ok, Err};
 ghost use Rattle.tcel_image.specs.Spelling.{spelling};
 ghost use Rattle.tcel_image.specs.Reading.{reading};
-ghost use Rattle.tcel_image.specs.Examples.{echo};
-ghost use Rattle.tcel_image.specs.SpellingExample.{echo_bytes};
+ghost use Rattle.tcel_image.specs.Examples.{echo, dispatched_echo};
+ghost use Rattle.tcel_image.specs.SpellingExample.{echo_bytes, with_dispatch, with_version};
+ghost use Rattle.tcel_image.specs.declared.fault.ImageFail.TheVariants.{BadField};
 ghost use Rattle.tcel_image.specs.Laws.{IsTold, IsPrefixFree, IsReadAgain, IsReadOnlySo, IsExtraBehind, IsShortFront};
 
 /// Laws of the spelling of images, for proofs. Each image in range has one spelling and no other image
@@ -17,9 +18,13 @@ pub fn spelling_laws()
     ensures short_front { IsShortFront }
 {}
 
-/// The spelling of one small image, byte by byte.
+/// The spelling of one small image, byte by byte, and what a cost of dispatch adds to it.
 pub fn spelling_example()
     ensures size { length echo_bytes ≡ 256 }
     ensures spelled { spelling echo ≡ echo_bytes }
     ensures read { reading echo_bytes ≡ Ok echo }
+    ensures dispatched { spelling dispatched_echo ≡ with_dispatch 3 echo_bytes }
+    ensures dispatched_read { reading (with_dispatch 3 echo_bytes) ≡ Ok dispatched_echo }
+    ensures no_dispatch { reading (with_dispatch 0 echo_bytes) ≡ Err (BadField 72) }
+    ensures second_version { reading (with_version 2 echo_bytes) ≡ Err (BadField 72) }
 {}

@@ -1,7 +1,6 @@
 //! Images: the machine's tasks and their code, how their bytes spell them, and what a machine does with them.
 #![tactic(auto)]
 
-mod costs;
 mod examples;
 mod fault;
 mod flaw;
@@ -12,7 +11,6 @@ mod range;
 mod reading;
 mod writing;
 
-pub use costs::{CostKey, Costs};
 pub use examples::machine_examples;
 pub use fault::ImageFail;
 pub use flaw::{Flaw, FlawKind};

@@ -1,13 +1,13 @@
 ghost use Rattle.std.specs.Prelude.{◌<◌, ◌≤◌, ◌↔◌, length, All, IsTrue, FitsSigned};
 ghost use Rattle.std.specs.Option.{SomeIff};
 ghost use Rattle.std.specs.Int.{w64, IsInRange};
-ghost use Rattle.tcel_image.specs.Costs.{cost_of, CostsInRange, IsCost};
+ghost use Rattle.tcel_target.specs.Costs.{cost_of, CostsInRange, IsCost};
 ghost use Rattle.tcel_image.specs.Spelling.{InstrInRange, IsLength, NamesInRange, StatesInRange, CodeInRange, InRange, state_words, most_words};
 
-use crate::costs::{CostKey, Costs};
 use crate::image::{Image, ImageState, ImageTask, Instr, Line};
 use crate::reading::most_words;
 use tcel_num::Name;
+use tcel_target::{CostKey, Costs};
 
 /// What stands many times in an image, within the ranges of its fields or not. A `Name` and an `i64` are so
 /// by their type.
@@ -153,11 +153,11 @@ impl Ranged for ImageTask {
 }
 
 fn each_is_cost(costs: &Costs, keys: &[CostKey]) -> bool
-    ensures { IsTrue result ↔ All (λ key. IsCost (cost_of costs.now key)) keys.now }
+    ensures { IsTrue result ↔ All (λ key. IsCost key (cost_of costs.now key)) keys.now }
 {
     for key in keys {
         let cycles = costs.of(*key);
-        if cycles < 1 || 1000 < cycles {
+        if cycles < key.least() || 1000 < cycles {
             return false;
         }
     }

@@ -3,15 +3,15 @@ ghost use Rattle.std.specs.List.{prefix_len};
 ghost use Rattle.std.specs.Int.{w16, w32, IsInRange};
 ghost use Rattle.tcel_num.specs.Name.{may_follow};
 ghost use Rattle.tcel_image.specs.Spelling.{magic, state_words, most_words, InRange, spelling};
-ghost use Rattle.tcel_image.specs.Reading.{Gives, Answers, number_at, byte_at, many_at, name_front, text_at, names_at, operands_at, const_at, op_from, operator_at, instr_at, code_at, kind_from, state_at, states_from, states_at, cost_at, costs_at, magic_at, image_at, ended, fault_in, reading};
+ghost use Rattle.tcel_image.specs.Reading.{Gives, Answers, number_at, byte_at, many_at, name_front, text_at, names_at, operands_at, const_at, op_from, operator_at, instr_at, code_at, kind_from, state_at, states_from, states_at, cost_at, costs_at, dispatch_at, magic_at, image_at, ended, fault_in, reading};
 
-use crate::costs::Costs;
 use crate::fault::{Fault, ImageFail, ReadError};
 use crate::image::{Image, ImageState, ImageTask, Instr, Line, StateKind};
 use crate::operands::{Operands, Range};
 use sqlite_items::Items;
 use std::alloc::Global;
 use tcel_num::{Name, Op, may_follow, may_start};
+use tcel_target::Costs;
 
 /// What is read from an image many times in a row.
 trait Piece: Drop {
@@ -416,9 +416,21 @@ fn cost_of(bytes: &[u8]) -> Result<(u32, &[u8]), ReadError>
     u32_within(1, 1000, bytes)
 }
 
+/// The cost of a frame's start in an image of this version.
+#[tactic(auto, unfolding(crate::specs::Reading::dispatch_at))]
+fn dispatch_of(version: u32, bytes: &[u8]) -> Result<(u32, &[u8]), ReadError>
+    ensures { Gives (λ x. (x.0, x.1.now)) result (dispatch_at version bytes.now) }
+{
+    if version == 1 {
+        Ok((0, bytes))
+    } else {
+        cost_of(bytes)
+    }
+}
+
 #[tactic(auto, unfolding(crate::specs::Reading::costs_at))]
-fn costs_of(bytes: &[u8]) -> Result<(Costs, &[u8]), ReadError>
-    ensures { Gives (λ x. (x.0, x.1.now)) result (costs_at bytes.now) }
+fn costs_of(version: u32, bytes: &[u8]) -> Result<(Costs, &[u8]), ReadError>
+    ensures { Gives (λ x. (x.0, x.1.now)) result (costs_at version bytes.now) }
 {
     let (const_, rest) = cost_of(bytes)?;
     let (load, rest) = cost_of(rest)?;
@@ -435,6 +447,7 @@ fn costs_of(bytes: &[u8]) -> Result<(Costs, &[u8]), ReadError>
     let (send, rest) = cost_of(rest)?;
     let (mark, rest) = cost_of(rest)?;
     let (end, rest) = cost_of(rest)?;
+    let (dispatch, rest) = dispatch_of(version, rest)?;
     let costs = Costs {
         const_,
         load,
@@ -451,6 +464,7 @@ fn costs_of(bytes: &[u8]) -> Result<(Costs, &[u8]), ReadError>
         send,
         mark,
         end,
+        dispatch,
     };
     Ok((costs, rest))
 }
@@ -471,9 +485,9 @@ fn image_of(alloc: Global, bytes: &[u8]) -> Result<(Image, &[u8]), ReadError>
     ensures { Gives (λ x. (x.0, x.1.now)) result (image_at bytes.now) }
 {
     let rest = after_magic(bytes)?;
-    let (_, rest) = u32_within(1, 1, rest)?;
+    let (version, rest) = u32_within(1, 2, rest)?;
     let (count, rest) = u32_within(1, 16, rest)?;
-    let (costs, rest) = costs_of(rest)?;
+    let (costs, rest) = costs_of(version, rest)?;
     let (tasks, rest) = many(alloc, count, rest)?;
     Ok((Image { costs, tasks }, rest))
 }

@@ -3,6 +3,7 @@ use sqlite_items::Items;
 use std::alloc::Global;
 use std::test::Fail;
 use tcel_num::{Name, Op};
+use tcel_target::{CostKey, Costs};
 
 /// A task `t` that hands each input on and counts its frames, with unit costs.
 const COUNTER: [u8; 256] = [
@@ -42,9 +43,11 @@ fn counter_both_ways(rt: HostRuntime) -> Result<(), Fail> {
 }
 
 /// One byte of the image changed: its place, its new value, and the first fault.
-const CHANGED: [(usize, u8, Option<ImageFail>); 34] = [
+const CHANGED: [(usize, u8, Option<ImageFail>); 35] = [
     (0, 0, Some(ImageFail::BadMagic)),
     (4, 3, Some(ImageFail::BadField { at: 4 })),
+    // Version 2 has a cost of dispatch behind the others, and here the bytes are none.
+    (4, 2, Some(ImageFail::BadField { at: 72 })),
     (8, 0, Some(ImageFail::BadField { at: 8 })),
     (8, 17, Some(ImageFail::BadField { at: 8 })),
     (8, 2, Some(ImageFail::Short { at: 256 })),
@@ -261,12 +264,15 @@ fn every_instruction(rt: HostRuntime) -> Result<(), Fail> {
     let mut costs = Costs::unit();
     costs.set(CostKey::End, 1000);
     costs.set(CostKey::Const, 7);
+    costs.set(CostKey::Dispatch, 1000);
     let mut tasks = Items::new(rt.alloc());
     tasks.push(task(rt.alloc(), b"high")?)?;
     tasks.push(task(rt.alloc(), b"low")?)?;
     let image = Image { costs, tasks };
     assert!(rt; in_range(&image));
     let bytes = encode(rt.alloc(), &image)?;
+    assert_eq!(rt; bytes.get(4..8), Some(b"\x02\0\0\0".as_slice()));
+    assert_eq!(rt; bytes.get(72..76), Some(b"\xe8\x03\0\0".as_slice()));
     let again = decode(rt.alloc(), &bytes)?;
     assert_eq!(rt; again.costs, costs);
     assert_eq!(rt;

@@ -1,12 +1,13 @@
 ghost use Rattle.std.specs.Prelude.{◌≡◌, ℕ, List, ◌++◌, ◌<◌, All, OnOk, IfOk};
 ghost use Rattle.std.specs.List.{flat_map};
 ghost use Rattle.std.specs.Int.{w16, w32};
-ghost use Rattle.tcel_image.specs.Spelling.{number, byte, op_number, opcode, operator, three, operands, kind_number, names, states, code, costs, NamesInRange, StatesInRange, CodeInRange, InRange, spelling};
+ghost use Rattle.tcel_target.specs.Costs.{cost_of, instruction_keys};
+ghost use Rattle.tcel_image.specs.Spelling.{number, byte, op_number, opcode, operator, three, operands, kind_number, names, states, code, costs, dispatch, version, NamesInRange, StatesInRange, CodeInRange, InRange, spelling};
 
-use crate::costs::{CostKey, Costs};
 use crate::image::{Image, ImageState, ImageTask, Instr, Line, StateKind};
 use std::alloc::Global;
 use tcel_num::{Name, NoMemory, Op};
+use tcel_target::{CostKey, Costs};
 
 /// What is written into an image.
 trait Spelled {
@@ -234,10 +235,35 @@ impl Spelled for ImageTask {
 fn put_costs(out: &mut Vec<u8>, table: &Costs) -> Result<(), NoMemory>
     ensures { OnOk result (out.new.items ≡ out.old.items ++ costs table.now) }
 {
-    for key in CostKey::ALL {
+    put_cycles(out, table)?;
+    put_dispatch(out, table.dispatch)
+}
+
+/// Writes the costs of instructions.
+fn put_cycles(out: &mut Vec<u8>, table: &Costs) -> Result<(), NoMemory>
+    ensures { OnOk result (out.new.items ≡ out.old.items ++ flat_map (λ key. number w32 (cost_of table.now key)) instruction_keys) }
+{
+    for key in CostKey::INSTRUCTIONS {
         put_u32(out, table.of(key))?;
     }
     Ok(())
+}
+
+/// Writes the cost of a frame's start, where there is one.
+fn put_dispatch(out: &mut Vec<u8>, ticks: u32) -> Result<(), NoMemory>
+    ensures { OnOk result (out.new.items ≡ out.old.items ++ dispatch ticks) }
+{
+    if ticks == 0 {
+        Ok(())
+    } else {
+        put_u32(out, ticks)
+    }
+}
+
+fn version(ticks: u32) -> u32
+    ensures { result ≡ version ticks }
+{
+    if ticks == 0 { 1 } else { 2 }
 }
 
 /// The one spelling of the image (docs/formats.md).
@@ -247,7 +273,7 @@ pub fn encode(alloc: Global, image: &Image) -> Result<Vec<u8>, NoMemory>
 {
     let mut out = Vec::new(alloc);
     out.extend_from_slice(b"TCEL")?;
-    put_u32(&mut out, 1)?;
+    put_u32(&mut out, version(image.costs.dispatch))?;
     put_u32(&mut out, image.tasks.len() as u32)?;
     put_costs(&mut out, &image.costs)?;
     put_each(image.tasks.as_slice(), &mut out)?;

@@ -2,7 +2,7 @@
 use Rattle.std.proofs.Common.{◌≡◌, ℕ, ◌+◌, ◌*◌, ◌^◌, ◌<◌, ◌≤◌, ℤ, pos, true, false, cond, List, length, get_or, Some, ap, sym, ◌∙◌, subst, arith}
 use Rattle.std.specs.List.{slice_get}
 use Rattle.std.proofs.lemmas.Option.{slice_get-get_or}
-use Rattle.tcel_image.specs.declared.costs.Costs.{Costs}
+use Rattle.tcel_target.specs.declared.costs.Costs.{Costs}
 use Rattle.tcel_image.specs.declared.image.ImageTask.{ImageTask}
 use Rattle.tcel_image.specs.declared.image.Instr.TheVariants.{Const}
 use Rattle.tcel_image.specs.declared.image.Line.{Line}

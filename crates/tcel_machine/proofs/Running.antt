@@ -1,4 +1,4 @@
--- A tick in which a task has a cycle.
+-- A tick that a task has.
 use Rattle.std.proofs.Common.{◌≡◌, ℕ, ◌+◌, ◌<◌, ◌≤◌, ⊎_elim, List, [], length, get_or, set, take, map, get_or-set_same, Option, Some, None, refl, ap, sym, ◌∙◌, arith}
 use Rattle.std.specs.List.{slice_get}
 use Rattle.std.specs.Option.{option_map, option_map_or}
@@ -8,7 +8,7 @@ use Rattle.std.proofs.lemmas.Option.{slice_get-map, slice_get_read, slice_get_ca
 use Rattle.tcel_num.specs.Entry as plain
 use Rattle.tcel_image.specs.declared.image.Image.{Image}
 use Rattle.tcel_image.specs.declared.image.ImageTask.{ImageTask}
-use Rattle.tcel_image.specs.Machine.{Running, Streams, Outcome, Ticked, cycle, entry_of, tick_from}
+use Rattle.tcel_image.specs.Machine.{Running, Streams, Outcome, Ticked, own_tick, entry_of, tick_from}
 use Rattle.tcel_image.specs.Spelling.{state_words}
 use Rattle.tcel_machine.specs.declared.entry.What.{What}
 use Rattle.tcel_machine.specs.declared.task.Task.{Task}
@@ -27,7 +27,7 @@ module _ (image : Image) (streams : Streams) (now : ℕ) (old : List Task) (numb
     (first : IsFirstReady image.tasks now (map running_of old) (Some number)) (within : number < length old) (is : slice_get image.tasks number ≡ Some task)
     (was : slice_get old number ≡ Some run) where
   abbrev outcome : Outcome
-  outcome = cycle image.costs task (get_or streams number []) now (running_of run)
+  outcome = own_tick image.costs task (get_or streams number []) now (running_of run)
 
   state_is : new.words ≡ state_words task.states → state_in image.tasks (map running_of (set old number new)) number ≡ state_of new
   state_is words =

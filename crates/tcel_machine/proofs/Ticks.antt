@@ -2,16 +2,16 @@
 use Rattle.std.proofs.Common.{◌≡◌, ℕ, zero, suc, ◌+◌, ◌<◌, true, false, List, [], ◌∷◌, get_or, set, None, refl, ap, sym, ◌∙◌, arith}
 use Rattle.std.specs.List.{slice_get}
 use Rattle.std.proofs.lemmas.Bool.{false≢true}
-use Rattle.tcel_image.specs.declared.costs.Costs.{Costs}
+use Rattle.tcel_target.specs.declared.costs.Costs.{Costs}
 use Rattle.tcel_image.specs.declared.image.ImageTask.{ImageTask}
-use Rattle.tcel_image.specs.Machine.{Running, Streams, Ticked, cycle, after, entry_of, tick_from}
+use Rattle.tcel_image.specs.Machine.{Running, Streams, Ticked, own_tick, after, entry_of, tick_from}
 use Rattle.tcel_machine.specs.Runs.{ready_at}
 use Rattle.tcel_machine.proofs.Ready.{never_ready}
 
--- what a tick leaves in which the task of this number has a cycle
+-- what a tick leaves that the task of this number has
 abbrev pub ticked_at : Costs → ℕ → ImageTask → Streams → ℕ → ℕ → Running → List Running → Ticked
 ticked_at costs now task streams number place running all =
-    let outcome = cycle costs task (get_or streams number []) now running in
+    let outcome = own_tick costs task (get_or streams number []) now running in
     record { tasks = set all place outcome.task; entry = entry_of now number running outcome.shown }
 
 pub tick_at : (costs : Costs) (now : ℕ) (tasks : List ImageTask) (streams : Streams) (from number place : ℕ) (all : List Running) (task : ImageTask) (running : Running)

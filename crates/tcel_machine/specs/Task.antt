@@ -12,7 +12,15 @@ use Rattle.tcel_machine.specs.declared.task.Task.{Task}
 -- the task as the definition has it
 abbrev pub running_of : Task → Running
 running_of task =
-    record { cells = task.cells.items; stack = task.stack; place = task.place; spent = task.spent; ended = task.ended; taken = task.taken.items }
+    record {
+      cells = task.cells.items;
+      stack = task.stack;
+      place = task.place;
+      dispatched = task.dispatched;
+      spent = task.spent;
+      ended = task.ended;
+      taken = task.taken.items;
+    }
 
 -- the task has become this one
 pub record Becomes (old new : Task) (after : Running) : Type 0 where

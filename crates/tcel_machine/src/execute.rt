@@ -6,9 +6,10 @@ ghost use Rattle.tcel_machine.specs.Task.{running_of, Becomes, CanRun, Shows};
 
 use crate::entry::What;
 use crate::task::Task;
-use tcel_image::{Costs, Instr};
+use tcel_image::Instr;
 use tcel_num::Op;
 use tcel_script::Script;
+use tcel_target::Costs;
 
 fn receive(task: &mut Task, script: &Script, number: usize, port: u32, cell: u32) -> Option<What>
     requires place { task.old.place < 65536 }

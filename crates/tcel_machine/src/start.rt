@@ -62,6 +62,7 @@ fn start(alloc: Global, image_task: &ImageTask) -> Result<Task, NoMemory>
         cells,
         stack: Stack::new(),
         place: 0,
+        dispatched: 0,
         spent: 0,
         ended: 0,
         taken,

@@ -4,7 +4,7 @@ ghost use Rattle.tcel_machine.specs.Runs.{IsFirstReady};
 ghost use Rattle.tcel_machine.specs.Task.{running_of};
 ghost use Rattle.tcel_machine.specs.Tick.{CanTick, Ticks};
 
-use crate::cycle::cycle;
+use crate::cycle::own_tick;
 use crate::entry::Entry;
 use crate::task::Task;
 use tcel_image::{Image, ImageTask};
@@ -33,7 +33,7 @@ fn first_ready(image: &Image, now: u64, tasks: &[Task]) -> Option<usize>
     None
 }
 
-/// A tick in which the task of this number has a cycle.
+/// A tick that the task of this number has.
 fn run(image: &Image, script: &Script, now: u64, tasks: &mut [Task], number: usize) -> Option<Entry>
     requires can { CanTick image.now now tasks.old }
     requires first { IsFirstReady image.now.tasks now (map running_of tasks.old) (Some number) }
@@ -44,7 +44,7 @@ fn run(image: &Image, script: &Script, now: u64, tasks: &mut [Task], number: usi
     let image_task = &image_tasks[number];
     let task = &mut tasks[number];
     let frame = task.ended;
-    match cycle(&image.costs, image_task, script, number, now, task) {
+    match own_tick(&image.costs, image_task, script, number, now, task) {
         None => None,
         Some(what) => Some(Entry {
             time: now + 1,

@@ -9,13 +9,14 @@ use crate::operator::{binary, holds, is_unary, unary};
 use crate::stack::Stack;
 use tcel_num::{Op, add};
 
-/// A task that runs. `spent` counts the cycles of the current instruction, `taken` the values that
-/// each input has given, `words` the cells of the states.
+/// A task that runs. `dispatched` counts the ticks of the current frame's start, `spent` the cycles of the
+/// current instruction, `taken` the values that each input has given, `words` the cells of the states.
 #[derive(Debug, Drop)]
 pub(crate) struct Task {
     pub(crate) cells: Vec<i64>,
     pub(crate) stack: Stack,
     pub(crate) place: usize,
+    pub(crate) dispatched: u32,
     pub(crate) spent: u64,
     pub(crate) ended: u64,
     pub(crate) taken: Vec<u64>,
@@ -145,7 +146,7 @@ impl Task {
         requires cell { HasCells cell 1 (running_of self.old) }
         requires port { port < length self.old.taken.items }
         requires more { slice_index self.old.taken.items port < 2 ^ 63 }
-        ensures running { running_of self.new ≡ record { cells = slice_set self.old.cells.items cell value; stack = self.old.stack; place = self.old.place + 1; spent = 0; ended = self.old.ended; taken = slice_set self.old.taken.items port (slice_index self.old.taken.items port + 1) } }
+        ensures running { running_of self.new ≡ record (running_of self.old) { cells = slice_set self.old.cells.items cell value; place = self.old.place + 1; spent = 0; taken = slice_set self.old.taken.items port (slice_index self.old.taken.items port + 1) } }
         ensures words { self.new.words ≡ self.old.words }
     {
         self.cells[cell as usize] = value;
@@ -182,6 +183,7 @@ impl Task {
         clear(self.cells.as_mut_slice(), self.words);
         self.ended += 1;
         self.place = 0;
+        self.dispatched = 0;
         self.spent = 0;
     }
 }

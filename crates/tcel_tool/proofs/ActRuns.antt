@@ -11,7 +11,7 @@ use Rattle.tcel_core.specs.Meaning.{next_input, received, value, with_cells}
 use Rattle.tcel_core.specs.Scope.{ActFits}
 use Rattle.tcel_core.proofs.Remain.{take_one}
 use Rattle.tcel_core.proofs.Scope.{array_within}
-use Rattle.tcel_image.specs.declared.costs.CostKey.TheVariants as keys
+use Rattle.tcel_target.specs.declared.costs.CostKey.TheVariants as keys
 use Rattle.tcel_image.specs.declared.image.Instr.TheVariants.{Copy, Put, PutAt, Receive, Send}
 use Rattle.tcel_tool.specs.Code.{at, expr_code}
 use Rattle.tcel_tool.specs.Costs.{expr_cycles}
@@ -37,7 +37,7 @@ module _ (s : Setting) where
       (λ dues ran since ahead.
       value_runs s e fits.1 0 p ran since stack m.cells others taken dues order.words (stands_front task.code p code put stands)
       (quiet_step s taken dues (Put (place vars v)) 1 (λ now r. refl) (ranges keys.Store).0 (p + length code) (p + length code + 1) (ran + expr_cycles costs vars e) (since + expr_cycles costs vars e)
-      (x ∷ stack) stack (m.cells ++ others) (cells ++ others) (stands_back task.code p code put stands).0 (λ spent. ap (λ l. quietly (ready_at (p + length code + 1) stack l frame taken)) same)
+      (x ∷ stack) stack (m.cells ++ others) (cells ++ others) (stands_back task.code p code put stands).0 (λ spent. ap (λ l. quietly (ready_at costs (p + length code + 1) stack l frame taken)) same)
       (ahead_at s taken dues _ _ _ _ _ _ stack (cells ++ others) (omega arith) (omega arith) (omega (arith, length-append code put)) ahead)))
 
   pub assign_at_runs : (v : ℕ) (i e : Expr) → ActFits (assign_at v i e) vars → ActDoes s (assign_at v i e)
@@ -60,7 +60,7 @@ module _ (s : Setting) where
       (value_runs s e fits.1 1 p1 (ran + expr_cycles costs vars i) (since + expr_cycles costs vars i) (x ∷ stack) m.cells others taken dues order.words (stands_front task.code p1 code put behind)
       (quiet_step s taken dues (PutAt (place vars v) (width vars v)) 2 (λ now r. refl) (ranges keys.StoreAt).0 p2 (p2 + 1)
       (ran + expr_cycles costs vars i + expr_cycles costs vars e) (since + expr_cycles costs vars i + expr_cycles costs vars e) (y ∷ x ∷ stack) stack (m.cells ++ others) (cells ++ others)
-      (stands_back task.code p1 code put behind).0 (λ spent. ap (λ l. quietly (ready_at (p2 + 1) stack l frame taken)) same)
+      (stands_back task.code p1 code put behind).0 (λ spent. ap (λ l. quietly (ready_at costs (p2 + 1) stack l frame taken)) same)
       (ahead_at s taken dues _ _ _ _ _ _ stack (cells ++ others) (omega arith) (omega arith) (omega (arith, length-append index (code ++ put), length-append code put)) ahead))))
 
   pub copy_runs : (a b : ℕ) → ActFits (copy a b) vars → ActDoes s (copy a b)
@@ -76,7 +76,7 @@ module _ (s : Setting) where
       pass_goes s (width vars a * (costs.load + costs.store)) (with_cells m cells) low p (p + 1) entry floor m.cells others others taken refl (λ j h. refl)
       (λ dues ran since ahead.
       quiet_step s taken dues (Copy (place vars a) (place vars b) (width vars a)) 0 (λ now r. refl) (mul-pos fits.some each_word) p (p + 1) ran since stack stack
-      (m.cells ++ others) (cells ++ others) stands.0 (λ spent. ap (λ l. quietly (ready_at (p + 1) stack l frame taken)) same) ahead)
+      (m.cells ++ others) (cells ++ others) stands.0 (λ spent. ap (λ l. quietly (ready_at costs (p + 1) stack l frame taken)) same) ahead)
 
   pub receive_runs : (v port : ℕ) → ActFits (receive v port) vars → ActDoes s (receive v port)
   receive_runs v port scalar m low p entry floor counter others taken order at_low stands =
@@ -90,9 +90,9 @@ module _ (s : Setting) where
       (λ due later ran since is early soon ahead.
       show_step s (Receive port (place vars v)) 0 (λ now r. refl) (ranges keys.Receive).0 p (p + 1) ran since stack stack (m.cells ++ others) (cells ++ others) taken taken' due later stands.0
       (λ spent.
-      ap (λ y. showing (receive_entry port y) (ready_at (p + 1) stack (set (m.cells ++ others) (place vars v) y) frame taken')) same
-      ∙ ap (λ l. showing (receive_entry port x) (ready_at (p + 1) stack l frame taken')) stays
-      ∙ ap (λ w. showing w (ready_at (p + 1) stack (cells ++ others) frame taken')) (sym is))
+      ap (λ y. showing (receive_entry port y) (ready_at costs (p + 1) stack (set (m.cells ++ others) (place vars v) y) frame taken')) same
+      ∙ ap (λ l. showing (receive_entry port x) (ready_at costs (p + 1) stack l frame taken')) stays
+      ∙ ap (λ w. showing w (ready_at costs (p + 1) stack (cells ++ others) frame taken')) (sym is))
       early soon ahead)
 
   pub send_runs : (e : Expr) (port : ℕ) → ActFits (send e port) vars → ActDoes s (send e port)
@@ -105,5 +105,5 @@ module _ (s : Setting) where
       value_runs s e sound 0 p ran since stack m.cells others taken (due ∷ later) order.words (stands_front task.code p code out stands)
       (show_step s (Send port) 1 (λ now r. refl) (ranges keys.Send).0 (p + length code) (p + length code + 1) (ran + expr_cycles costs vars e) (since + expr_cycles costs vars e)
       (x ∷ stack) stack (m.cells ++ others) (m.cells ++ others) taken taken due later (stands_back task.code p code out stands).0
-      (λ spent. ap (λ w. showing w (ready_at (p + length code + 1) stack (m.cells ++ others) frame taken)) (sym is)) (omega arith) (omega arith)
+      (λ spent. ap (λ w. showing w (ready_at costs (p + length code + 1) stack (m.cells ++ others) frame taken)) (sym is)) (omega arith) (omega arith)
       (ahead_at s taken later _ _ _ _ _ _ stack (m.cells ++ others) (omega arith) (omega arith) (omega (arith, length-append code out)) ahead)))

@@ -11,7 +11,7 @@ use Rattle.tcel_core.specs.Outcome.{Memory, Occurrence, EnclosingBlock, enclosed
 use Rattle.tcel_core.specs.Windows.{latest, lesser, start_bound}
 use Rattle.tcel_core.specs.Scope.{Fits, StmtFits, IsUntimed, StmtIsUntimed, LoopsAreUntimed, StmtLoopsAreUntimed}
 use Rattle.tcel_core.proofs.Bodies.{ArePlain, act_plain, block_quiet}
-use Rattle.tcel_image.specs.declared.costs.Costs.{Costs}
+use Rattle.tcel_target.specs.declared.costs.Costs.{Costs}
 use Rattle.tcel_tool.specs.Code.{hold_of}
 use Rattle.tcel_tool.specs.Costs.{expr_cycles}
 use Rattle.tcel_tool.specs.Walks.{Counts, Walks, IsGreatest, IsLast, FirstAt, LastAt, IsFirstCount, IsLastCount, held_entry}

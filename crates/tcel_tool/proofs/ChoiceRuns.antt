@@ -9,7 +9,7 @@ use Rattle.tcel_core.specs.Meaning.{exec, value}
 use Rattle.tcel_core.specs.Outcome.{Memory, quiet}
 use Rattle.tcel_core.specs.Scope.{IsSound}
 use Rattle.tcel_core.proofs.Remain.{takes}
-use Rattle.tcel_image.specs.declared.costs.CostKey.TheVariants as keys
+use Rattle.tcel_target.specs.declared.costs.CostKey.TheVariants as keys
 use Rattle.tcel_image.specs.declared.image.Instr.TheVariants.{Branch, Jump}
 use Rattle.tcel_image.specs.declared.image.Line.{Line}
 use Rattle.tcel_tool.specs.Code.{at, expr_code, block_code, stmt_code, branches_code, held_length}

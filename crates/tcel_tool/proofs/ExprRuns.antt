@@ -14,12 +14,12 @@ use Rattle.tcel_core.specs.Language.{Expr, number, variable, element, unary, bin
 use Rattle.tcel_core.specs.Meaning.{value}
 use Rattle.tcel_core.specs.Scope.{HaveOperands, IsSound}
 use Rattle.tcel_core.proofs.Scope.{value_front}
-use Rattle.tcel_image.specs.declared.costs.Costs.{Costs}
-use Rattle.tcel_image.specs.declared.costs.CostKey.TheVariants as keys
+use Rattle.tcel_target.specs.declared.costs.Costs.{Costs}
+use Rattle.tcel_target.specs.declared.costs.CostKey.TheVariants as keys
 use Rattle.tcel_image.specs.declared.image.Instr.{Instr}
 use Rattle.tcel_image.specs.declared.image.Instr.TheVariants.{Const, Get, GetAt, Arith, Branch}
 use Rattle.tcel_image.specs.declared.image.Line.{Line}
-use Rattle.tcel_image.specs.Costs.{CostsInRange}
+use Rattle.tcel_target.specs.Costs.{CostsInRange}
 use Rattle.tcel_image.specs.Instructions.{cycles, operator_cycles}
 use Rattle.tcel_tool.specs.Code.{at, expr_code}
 use Rattle.tcel_tool.specs.Costs.{code_cycles, expr_cycles}
@@ -122,7 +122,7 @@ module _ (s : Setting) (cells : List ℤ) (taken : List ℕ) (dues : List Due) w
       expr_runs e ok.1 depth p ran since stack (stands_front task.code p inner apply stands)
       (quiet_step s taken dues (Arith op) (depth + 1) (λ now r. refl) (operator_takes costs ranges op) (p + length inner) (p + length inner + 1)
       (ran + code_cycles costs inner) (since + code_cycles costs inner) (value e vars cells ∷ stack) (x ∷ stack) cells cells (stands_back task.code p inner apply stands).0
-      (λ spent. ap (λ words. quietly (ready_at (p + length inner + 1) words cells frame taken)) (cond-true _ _ _ ok.0))
+      (λ spent. ap (λ words. quietly (ready_at costs (p + length inner + 1) words cells frame taken)) (cond-true _ _ _ ok.0))
       (ahead_at s taken dues _ _ _ _ _ _ (x ∷ stack) cells (omega arith) (omega arith) (omega (arith, length-append inner apply)) ahead))
   expr_runs (binary op a b) ok depth p ran since stack stands ahead =
       let first = expr_code a vars depth in
@@ -137,7 +137,7 @@ module _ (s : Setting) (cells : List ℤ) (taken : List ℕ) (dues : List Due) w
       (quiet_step s taken dues (Arith op) (depth + 2) (λ now r. refl) (operator_takes costs ranges op) (p + length first + length second) (p + length first + length second + 1)
       (ran + code_cycles costs first + code_cycles costs second) (since + code_cycles costs first + code_cycles costs second)
       (value b vars cells ∷ value a vars cells ∷ stack) (x ∷ stack) cells cells (stands_back task.code (p + length first) second apply behind).0
-      (λ spent. ap (λ words. quietly (ready_at (p + length first + length second + 1) words cells frame taken)) (cond-false _ _ _ ok.0))
+      (λ spent. ap (λ words. quietly (ready_at costs (p + length first + length second + 1) words cells frame taken)) (cond-false _ _ _ ok.0))
       (ahead_at s taken dues _ _ _ _ _ _ (x ∷ stack) cells (omega arith) (omega arith) (omega (arith, length-append first (second ++ apply), length-append second apply)) ahead)))
 
 module _ (s : Setting) where
@@ -168,5 +168,5 @@ module _ (s : Setting) where
       (quiet_step s taken dues (Branch target) 1 (λ now r. refl) (ranges keys.Branch).0 (p + length before) (cond b on target)
       (ran + expr_cycles costs vars test) (since + expr_cycles costs vars test) (value test vars cells ∷ stack) stack (cells ++ others) (cells ++ others)
       (stands_back task.code p before (at 1 (Branch target)) stands).0
-      (λ spent. ap (λ c. quietly (ready_at (cond c on target) stack (cells ++ others) frame taken)) is)
+      (λ spent. ap (λ c. quietly (ready_at costs (cond c on target) stack (cells ++ others) frame taken)) is)
       (ahead_at s taken dues _ _ _ _ (cond b on target) (cond b on target) stack (cells ++ others) (omega arith) (omega arith) refl ahead))

@@ -10,7 +10,7 @@ use Rattle.tcel_core.specs.Meaning.{exec, with_cells}
 use Rattle.tcel_core.specs.Outcome.{Memory, Outcome, rounds}
 use Rattle.tcel_core.specs.Scope.{ActFits, HasWord}
 use Rattle.tcel_core.proofs.Remain.{takes, takes-append}
-use Rattle.tcel_image.specs.declared.costs.CostKey.TheVariants as keys
+use Rattle.tcel_target.specs.declared.costs.CostKey.TheVariants as keys
 use Rattle.tcel_image.specs.declared.image.Instr.TheVariants.{Const, Get, Loop, Put}
 use Rattle.tcel_tool.specs.Code.{at, act_code, block_code}
 use Rattle.tcel_tool.specs.Walks.{Counts, ForWalks, Walks, Then, Rounds, Passes}
@@ -69,9 +69,9 @@ module _ (s : Setting) (l : LoopIn s) (v : ℕ) (scalar : HasWord s.vars v) (get
       let first = pass_goes s (costs.load + costs.store) m' low top body_at entry floor m.cells others others taken refl (λ k h. refl)
       (λ dues ran since ahead.
       quiet_step s taken dues (Get counter) 0 (λ now r. refl) (ranges keys.Load).0 top (top + 1) ran since stack (pos j ∷ stack) (m.cells ++ others) (m.cells ++ others) get
-      (λ spent. ap (λ x. quietly (ready_at (top + 1) (x ∷ stack) (m.cells ++ others) frame taken)) word)
+      (λ spent. ap (λ x. quietly (ready_at costs (top + 1) (x ∷ stack) (m.cells ++ others) frame taken)) word)
       (quiet_step s taken dues (Put (place vars v)) 1 (λ now r. refl) (ranges keys.Store).0 (top + 1) body_at (ran + costs.load) (since + costs.load) (pos j ∷ stack) stack (m.cells ++ others) (m'.cells ++ others) put
-      (λ spent. ap (λ w. quietly (ready_at (top + 1 + 1) stack w frame taken)) same ∙ ap (λ k. quietly (ready_at k stack (m'.cells ++ others) frame taken)) at_body)
+      (λ spent. ap (λ w. quietly (ready_at costs (top + 1 + 1) stack w frame taken)) same ∙ ap (λ k. quietly (ready_at costs k stack (m'.cells ++ others) frame taken)) at_body)
       (ahead_at s taken dues _ _ _ _ body_at body_at stack (m'.cells ++ others) (omega arith) (omega arith) refl ahead))) in
       let order : InOrder s m' (low + (1 + loops body)) others taken = record { words = length-set m.cells (place vars v) (pos j) ∙ words; room = now.order.room; remain = now.order.remain } in
       let rest = turn_goes s l j m' (entry + (costs.load + costs.store)) others taken (record { order = order; counted = now.counted }) less in

@@ -9,8 +9,8 @@ use Rattle.std.proofs.lemmas.List.Sums.{sum_by-cons}
 use Rattle.tcel_num.specs.Name.{IsName}
 use Rattle.tcel_core.specs.declared.var.Keep.{Keep}
 use Rattle.tcel_core.specs.Cells.{all_words, place}
-use Rattle.tcel_image.specs.Costs.{CostsInRange}
-use Rattle.tcel_image.specs.declared.costs.Costs.{Costs}
+use Rattle.tcel_target.specs.Costs.{CostsInRange}
+use Rattle.tcel_target.specs.declared.costs.Costs.{Costs}
 use Rattle.tcel_image.specs.Spelling.{IsWord, InstrInRange, LineInRange, NamesInRange, StateInRange, StatesInRange, CodeInRange, TaskInRange, InRange, state_words}
 use Rattle.tcel_image.specs.declared.image.ImageState.{ImageState}
 use Rattle.tcel_image.specs.declared.image.Instr.{Instr}

@@ -1,4 +1,5 @@
 pub mod WorkedExamples
+pub mod LoopExamples
 pub mod Ahead
 pub mod Steps
 pub mod ExprRuns
@@ -34,6 +35,7 @@ pub mod ImagesInRange
 pub mod PlainValid
 pub mod CommandWords
 pub mod Refusals
+pub mod ScriptRefusals
 pub mod StraightPlans
 pub mod OneTask
 pub mod Kept

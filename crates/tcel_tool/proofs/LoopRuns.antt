@@ -14,7 +14,7 @@ use Rattle.tcel_core.specs.Outcome.{Memory, Outcome, quiet}
 use Rattle.tcel_core.specs.Scope.{AreTurns, Fits}
 use Rattle.tcel_core.proofs.Bodies.{block_words, block_remains}
 use Rattle.tcel_core.proofs.Remain.{takes}
-use Rattle.tcel_image.specs.declared.costs.CostKey.TheVariants as keys
+use Rattle.tcel_target.specs.declared.costs.CostKey.TheVariants as keys
 use Rattle.tcel_image.specs.declared.image.Instr.TheVariants.{Const, Loop, Put}
 use Rattle.tcel_image.specs.declared.image.Line.{Line}
 use Rattle.tcel_tool.specs.Walks.{Counts, Walks, Then, Passes}
@@ -89,7 +89,7 @@ module _ (s : Setting) (l : LoopIn s) where
       quiet_step s taken dues (Const (pos 0)) 0 (λ now r. refl) (ranges keys.Const).0 p (p + 1) ran since stack (pos 0 ∷ stack) (m.cells ++ others) (m.cells ++ others) one (λ spent. refl)
       (quiet_step s taken dues (Put counter) 1 (λ now r. refl) (ranges keys.Store).0 (p + 1) top (ran + costs.const_) (since + costs.const_) (pos 0 ∷ stack) stack (m.cells ++ others) (m.cells ++ others')
       two
-      (λ spent. ap (λ l. quietly (ready_at (p + 1 + 1) stack l frame taken)) (counter_set vars m.cells others counter low (pos 0) words at_low) ∙ ap (λ k. quietly (ready_at k stack (m.cells ++ others') frame taken)) on)
+      (λ spent. ap (λ l. quietly (ready_at costs (p + 1 + 1) stack l frame taken)) (counter_set vars m.cells others counter low (pos 0) words at_low) ∙ ap (λ k. quietly (ready_at costs k stack (m.cells ++ others') frame taken)) on)
       (ahead_at s taken dues _ _ _ _ top top stack (m.cells ++ others') (omega arith) (omega arith) refl ahead)))
 
   pub begun : (m : Memory) (others : List ℤ) (taken : List ℕ) → InOrder s m (low + (1 + loops body)) others taken → AtTurn 0 m (set others low (pos 0)) taken
@@ -115,8 +115,8 @@ module _ (s : Setting) (l : LoopIn s) where
       (λ dues ran since ahead.
       quiet_step s taken dues (Loop counter turns top) 0 (λ now r. refl) (ranges keys.Loop).0 p q ran since stack stack (m.cells ++ others) (m.cells ++ others') l.count
       (λ spent.
-      ap (λ x. quietly (ready_at (cond (int_lt x (pos turns)) top (p + 1)) stack (set (m.cells ++ others) counter x) frame taken)) next
-      ∙ ap (λ w. quietly (ready_at q stack w frame taken)) (counter_set vars m.cells others counter low (pos (suc j)) words at_low))
+      ap (λ x. quietly (ready_at costs (cond (int_lt x (pos turns)) top (p + 1)) stack (set (m.cells ++ others) counter x) frame taken)) next
+      ∙ ap (λ w. quietly (ready_at costs q stack w frame taken)) (counter_set vars m.cells others counter low (pos (suc j)) words at_low))
       ahead)
 
   -- a body and the count behind it

@@ -11,9 +11,9 @@ use Rattle.tcel_demand.proofs.ReachedInTime.{reached_in_time}
 use Rattle.tcel_demand.proofs.ServedAtLast.{served_at_last}
 use Rattle.tcel_core.specs.Language.{Task}
 use Rattle.tcel_core.specs.Scope.{TaskFits}
-use Rattle.tcel_image.specs.declared.costs.Costs.{Costs}
-use Rattle.tcel_image.specs.declared.costs.CostKey.TheVariants as keys
-use Rattle.tcel_image.specs.Costs.{CostsInRange}
+use Rattle.tcel_target.specs.declared.costs.Costs.{Costs}
+use Rattle.tcel_target.specs.declared.costs.CostKey.TheVariants as keys
+use Rattle.tcel_target.specs.Costs.{CostsInRange}
 use Rattle.tcel_image.specs.Machine.{Streams}
 use Rattle.tcel_tool.specs.Headline.{HasStreams, WholeSetsMeetTheirSource}
 use Rattle.tcel_tool.specs.WholePlan.{IsWholePlan, AreWholePlans}

@@ -2,14 +2,14 @@
 use Rattle.std.proofs.Common.{◌≡◌, refl, ℕ, ◌<◌, ◌≤◌, List, [], ◌∷◌, ap, ◌∙◌, subst, arith}
 use Rattle.tcel_num.specs.Plan.{Plan}
 use Rattle.tcel_core.specs.Language.{Task}
-use Rattle.tcel_image.specs.declared.costs.Costs.{Costs}
+use Rattle.tcel_target.specs.declared.costs.Costs.{Costs}
 use Rattle.tcel_num.specs.Hyperperiod.{IsHyperperiod, demand}
 use Rattle.tcel_demand.proofs.Hyperperiods.{only_hyperperiod, own_demand}
 use Rattle.tcel_tool.specs.WholePlan.{IsWholePlan, AreWholePlans}
 use Rattle.tcel_tool.specs.declared.plain_tree.PlainTree.{PlainTree}
 use Rattle.tcel_tool.specs.PlainTree.{IsPlain, IsWritable, task_of, set_of}
 use Rattle.tcel_tool.specs.Headline.{KeepsItsPromise}
-use Rattle.tcel_image.specs.Costs.{CostsInRange}
+use Rattle.tcel_target.specs.Costs.{CostsInRange}
 use Rattle.tcel_tool.proofs.ImagesInRange.{image_in_range}
 use Rattle.tcel_tool.proofs.PlainMeets.{plain_programs_meet}
 use Rattle.tcel_tool.proofs.PlainValid.{plain_image_valid}

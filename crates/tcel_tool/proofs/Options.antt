@@ -16,3 +16,8 @@ err_map P Q (Err e) f h = f e h
 pub ok_map : {T E : Type 0} (R : Type 0) (P Q : T → Type 0) (r : Result T E) → ((x : T) → R → P x → Q x) → OnOk r R → IfOk r P → IfOk r Q
 ok_map R P Q (Ok x) f e h = f x e h
 ok_map R P Q (Err e) f g h = tt
+
+-- the same of a value alone
+pub value_map : {T E : Type 0} (P Q : T → Type 0) (r : Result T E) → ((x : T) → P x → Q x) → IfOk r P → IfOk r Q
+value_map P Q (Ok x) f h = f x h
+value_map P Q (Err e) f h = tt

@@ -16,8 +16,8 @@ use Rattle.tcel_num.specs.Plan.{Plan, Point, frame}
 use Rattle.tcel_num.specs.Schedule.{served}
 use Rattle.tcel_core.specs.Meets.{Meets}
 use Rattle.tcel_core.specs.Scope.{ActIsUntimed, ActFits, Fits, IsUntimed, HasWord, IsSound}
-use Rattle.tcel_image.specs.declared.costs.Costs.{Costs}
-use Rattle.tcel_image.specs.Costs.{CostsInRange}
+use Rattle.tcel_target.specs.declared.costs.Costs.{Costs}
+use Rattle.tcel_target.specs.Costs.{CostsInRange}
 use Rattle.tcel_image.specs.Machine.{Streams, trace}
 use Rattle.tcel_tool.specs.Headline.{CompiledProgramsMeetTheirSource, HasStreams}
 use Rattle.tcel_tool.specs.Layout.{image_of}
@@ -136,7 +136,7 @@ module _ (tree : PlainTree) (costs : Costs) (plan : Plan) (plain : IsPlain tree)
     in_time =
         λ f.
         let mark_point : Point = record { prefix = whole.end + costs.mark; bound = tree.period; name = frame } in
-        let none = no_points (task_of tree).body (task_of tree).vars costs 0 whole.windows (block_untimed 0 tree.decls tree.body) whole.in_text in
+        let none = no_points (task_of tree).body (task_of tree).vars costs costs.dispatch whole.windows (block_untimed 0 tree.decls tree.body) whole.in_text in
         let only = whole.points ∙ ap (λ (l : List Point). mark_point ∷ l) none in
         subst (EachPoint (Reaches plan.total tree.period f service)) (sym only) (in_time f, tt);
     long = long;

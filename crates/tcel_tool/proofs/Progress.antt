@@ -7,9 +7,9 @@ use Rattle.std.proofs.lemmas.List.{map_push}
 use Rattle.tcel_num.specs.Entry.{Entry}
 use Rattle.tcel_core.specs.Meets.{IsInTime, told, promised}
 use Rattle.tcel_core.specs.Promises.{Behavior, Promise, frame_promises, promises}
-use Rattle.tcel_image.specs.declared.costs.Costs.{Costs}
+use Rattle.tcel_target.specs.declared.costs.Costs.{Costs}
 use Rattle.tcel_image.specs.declared.image.ImageTask.{ImageTask}
-use Rattle.tcel_image.specs.Machine.{Running, Outcome, cycle, entry_of}
+use Rattle.tcel_image.specs.Machine.{Running, Outcome, own_tick, entry_of}
 use Rattle.tcel_tool.proofs.Ahead.{Due, Ahead, silent, shows, ends, ahead_later, due_later, one_ahead}
 
 -- an entry of frame f is due by a count of its frame's cycles, which the demand schedule reaches in time
@@ -217,24 +217,24 @@ module _ (costs : Costs) (task : ImageTask) (inputs : List (List ℤ)) (b : Beha
     After o = Progress (now + 1) count' o.task (past ++ option_to_list (entry_of now number r o.shown))
 
     -- a tick of its own
-    own_tick : (p : Progress now count r past) (left : List Due) → p.left ≡ left → p.frame * task.period ≤ now → (ran since : ℕ) → p.ran ≡ ran → since ≤ now →
-        Ahead costs task inputs (frames.start (suc p.frame)) ran since r left → After (cycle costs task inputs now r)
-    own_tick p left e ready ran since same_ran may (silent to step same more) =
+    goes_on : (p : Progress now count r past) (left : List Due) → p.left ≡ left → p.frame * task.period ≤ now → (ran since : ℕ) → p.ran ≡ ran → since ≤ now →
+        Ahead costs task inputs (frames.start (suc p.frame)) ran since r left → After (own_tick costs task inputs now r)
+    goes_on p left e ready ran since same_ran may (silent to step same more) =
         subst After (sym (step now may))
         (subst (Progress (now + 1) count' (to now)) (sym (append-nil past))
         (silently p (to now) (same now)
         (subst (λ n. Ahead costs task inputs (frames.start (suc p.frame)) (suc n) (suc now) (to now) p.left) (sym same_ran)
         (subst (Ahead costs task inputs (frames.start (suc p.frame)) (suc ran) (suc now) (to now)) (sym e) (more now may)))))
-    own_tick p left e ready ran since same_ran may (shows {due = due} {dues = others} to step same early soon more) =
+    goes_on p left e ready ran since same_ran may (shows {due = due} {dues = others} to step same early soon more) =
         subst After (sym (step now))
         (openly p due others to e same (omega arith) ready (omega arith)
         (subst (λ n. Ahead costs task inputs (frames.start (suc p.frame)) (suc n) (suc now) to others) (sym same_ran) (ahead_later more (suc now) (omega arith))))
-    own_tick p left e ready ran since same_ran may (ends {due = due} step early soon) =
+    goes_on p left e ready ran since same_ran may (ends {due = due} step early soon) =
         subst After (sym (step now)) (lastly p due e (omega arith) ready (omega arith))
 
     -- a tick in which it runs
-    pub runs : (p : Progress now count r past) → r.ended * task.period ≤ now → After (cycle costs task inputs now r)
+    pub runs : (p : Progress now count r past) → r.ended * task.period ≤ now → After (own_tick costs task inputs now r)
     runs p ready =
         let ready' : p.frame * task.period ≤ now = subst (λ f. f * task.period ≤ now) p.at ready in
         let may : p.since ≤ now = elim p.may_run [ inl h ↦ h | inr h ↦ omega arith ] in
-        own_tick p p.left refl ready' p.ran p.since refl may p.ahead
+        goes_on p p.left refl ready' p.ran p.since refl may p.ahead

@@ -7,7 +7,7 @@ use Rattle.tcel_core.specs.Language.{Expr, Block, done, next, Stmt, item, choice
 use Rattle.tcel_core.specs.Meaning.{exec, exec_act, exec_stmt, value}
 use Rattle.tcel_core.specs.Outcome.{Memory, Occurrence, Outcome}
 use Rattle.tcel_core.proofs.Bodies.{length-enclosed}
-use Rattle.tcel_image.specs.declared.costs.Costs.{Costs}
+use Rattle.tcel_target.specs.declared.costs.Costs.{Costs}
 use Rattle.tcel_tool.specs.Code.{hold_of}
 use Rattle.tcel_tool.specs.Costs.{expr_cycles}
 use Rattle.tcel_tool.specs.Walks.{Counts, Walks, StmtWalks, ActWalks, Then, Either, Passes, held_entry, jump_cost}

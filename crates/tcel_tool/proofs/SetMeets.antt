@@ -9,7 +9,7 @@ use Rattle.tcel_num.specs.Schedule.{serve_highest, served_counts, served}
 use Rattle.tcel_demand.proofs.Served.{served_mono, length-served}
 use Rattle.tcel_core.specs.Meets.{Shows, Keeps, entries_of}
 use Rattle.tcel_core.specs.Promises.{Behavior, promises}
-use Rattle.tcel_image.specs.declared.costs.Costs.{Costs}
+use Rattle.tcel_target.specs.declared.costs.Costs.{Costs}
 use Rattle.tcel_image.specs.declared.image.Image.{Image}
 use Rattle.tcel_image.specs.Machine.{Streams, Running, tick, entries, start_task, trace}
 use Rattle.tcel_tool.proofs.Progress.{Progress, begins}

@@ -11,9 +11,9 @@ use Rattle.tcel_num.specs.Schedule.{released, is_pending, serve_highest, served}
 use Rattle.tcel_demand.proofs.Served.{served_mono}
 use Rattle.tcel_core.specs.Meets.{entries_of}
 use Rattle.tcel_core.specs.Promises.{Behavior}
-use Rattle.tcel_image.specs.declared.costs.Costs.{Costs}
+use Rattle.tcel_target.specs.declared.costs.Costs.{Costs}
 use Rattle.tcel_image.specs.declared.image.ImageTask.{ImageTask}
-use Rattle.tcel_image.specs.Machine.{Streams, Running, Ticked, is_ready, cycle, entry_of, tick_from, runs, after, start_task}
+use Rattle.tcel_image.specs.Machine.{Streams, Running, Ticked, is_ready, own_tick, entry_of, tick_from, runs, after, start_task}
 use Rattle.tcel_tool.proofs.Progress.{Frames, Progress, waits, not_ended}
 use Rattle.tcel_tool.proofs.Progress.{runs as task_runs}
 
@@ -56,7 +56,7 @@ tick_is_from : (costs : Costs) (now : ℕ) (tasks : List ImageTask) (streams : S
 tick_is_from costs now [] streams n rs = λ e h. absurd (none-some e h)
 tick_is_from costs now (task ∷ tasks) streams n [] = λ e h. absurd (none-some e h)
 tick_is_from costs now (task ∷ tasks) streams n (r ∷ rs) =
-    let o = cycle costs task (slice_index_or streams n []) now r in
+    let o = own_tick costs task (slice_index_or streams n []) now r in
     let others = tick_from costs now tasks streams (n + 1) rs in
     cond_both (is_ready task now r) (runs now n r o rs) (after r others) (λ t. IsFrom n t.entry)
     (λ _ e h. let g = entry_from now n r o.shown e h in omega arith)
@@ -116,15 +116,15 @@ module _ (costs : Costs) (plans : List Plan) (streams : Streams) where
   -- a tick of a site's task
   site_runs : (site : Site costs plans streams) (now count count' : ℕ) (r : Running) (past : List Entry) (n : ℕ) → site.number ≡ n → count ≡ served plans now site.number → count' ≤ count + 1 →
       r.ended < now / site.task.period + 1 → ProgressAt site now count r past →
-      let o = cycle costs site.task (slice_index_or streams n []) now r in
+      let o = own_tick costs site.task (slice_index_or streams n []) now r in
       ProgressAt site (now + 1) count' o.task (past ++ option_to_list (entry_of now n r o.shown))
   site_runs site now count count' r past n at is one ready p =
       let ready' : r.ended * site.task.period ≤ now = (le-div_iff_mul-le site.positive).0 (omega arith) in
       let service : ℕ → ℕ = λ time. served plans time site.number in
       let inputs = slice_index_or streams site.number [] in
-      let o = cycle costs site.task inputs now r in
+      let o = own_tick costs site.task inputs now r in
       let done = task_runs costs site.task inputs site.behavior site.plan.total service site.frames (λ a b. served_mono plans a b site.number) now count count' site.number r (entries_of site.number past) is one p ready' in
-      subst (λ k. ProgressAt site (now + 1) count' (cycle costs site.task (slice_index_or streams k []) now r).task (past ++ option_to_list (entry_of now k r (cycle costs site.task (slice_index_or streams k []) now r).shown))) at
+      subst (λ k. ProgressAt site (now + 1) count' (own_tick costs site.task (slice_index_or streams k []) now r).task (past ++ option_to_list (entry_of now k r (own_tick costs site.task (slice_index_or streams k []) now r).shown))) at
       (subst (λ l. Progress costs site.task inputs site.behavior site.plan.total service site.frames (now + 1) count' o.task l) (sym (of_task site.number past now r o.shown)) done)
 
   -- a tick in which a site's task doesn't run
@@ -155,9 +155,9 @@ module _ (costs : Costs) (plans : List Plan) (streams : Streams) where
   -- the first of these tasks has the tick
   first_runs : (site : Site costs plans streams) (sites : List (Site costs plans streams)) (n now count count' : ℕ) (counts : List ℕ) (r : Running) (rs : List Running) (past : List Entry) →
       Numbered n (site ∷ sites) → count ≡ served plans now site.number → count' ≤ count + 1 → r.ended < now / site.task.period + 1 → EachProgress (site ∷ sites) now (count ∷ counts) (r ∷ rs) past →
-      Ticks (site ∷ sites) now past (count' ∷ counts) (runs now n r (cycle costs site.task (slice_index_or streams n []) now r) rs)
+      Ticks (site ∷ sites) now past (count' ∷ counts) (runs now n r (own_tick costs site.task (slice_index_or streams n []) now r) rs)
   first_runs site sites n now count count' counts r rs past numbered is one ready p =
-      let o = cycle costs site.task (slice_index_or streams n []) now r in (
+      let o = own_tick costs site.task (slice_index_or streams n []) now r in (
         site_runs site now count count' r past n numbered.0 is one ready p.0,
         all_wait sites (n + 1) now counts rs past (entry_of now n r o.shown) numbered.1 (λ e h. let g = entry_from now n r o.shown e h in omega arith) p.1,
       )
@@ -180,7 +180,7 @@ module _ (costs : Costs) (plans : List Plan) (streams : Streams) where
   unserved_tick (site ∷ sites) n now [] rs past numbered are p = absurd p
   unserved_tick (site ∷ sites) n now (c ∷ counts) [] past numbered are p = absurd p
   unserved_tick (site ∷ sites) n now (c ∷ counts) (r ∷ rs) past numbered are p =
-      let o = cycle costs site.task (slice_index_or streams n []) now r in
+      let o = own_tick costs site.task (slice_index_or streams n []) now r in
       let others = tick_from costs now (map task_of sites) streams (n + 1) rs in
       cond_both (is_ready site.task now r) (runs now n r o rs) (after r others) (Ticks (site ∷ sites) now past (c ∷ counts))
       (λ ready. first_runs site sites n now c c counts r rs past numbered are.0 (omega arith) (ltb-true _ _ ready) p)
@@ -196,7 +196,7 @@ module _ (costs : Costs) (plans : List Plan) (streams : Streams) where
   served_tick (site ∷ sites) n now [] rs past numbered are p = absurd p
   served_tick (site ∷ sites) n now (c ∷ counts) [] past numbered are p = absurd p
   served_tick (site ∷ sites) n now (c ∷ counts) (r ∷ rs) past numbered are p =
-      let o = cycle costs site.task (slice_index_or streams n []) now r in
+      let o = own_tick costs site.task (slice_index_or streams n []) now r in
       let others = tick_from costs now (map task_of sites) streams (n + 1) rs in
       let lower = serve_highest (map plan_of sites) counts now in
       let from = tick_is_from costs now (map task_of sites) streams (n + 1) rs in

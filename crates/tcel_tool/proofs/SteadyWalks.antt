@@ -2,7 +2,7 @@
 use Rattle.std.proofs.Common.{ℕ, zero, suc, ◌+◌, ◌≤◌, List, [], ◌∷◌, ◌++◌, refl, sym, subst, arith, Option, Some, None, inl, inr}
 use Rattle.tcel_core.specs.declared.var.Var.{Var}
 use Rattle.tcel_core.specs.Language.{Block, done, next, Stmt, item, choice, timed, Act, assign, assign_at, receive, send, for_loop, while_loop, copy}
-use Rattle.tcel_image.specs.declared.costs.Costs.{Costs}
+use Rattle.tcel_target.specs.declared.costs.Costs.{Costs}
 use Rattle.tcel_tool.specs.Code.{hold_of}
 use Rattle.tcel_tool.specs.Costs.{expr_cycles}
 use Rattle.tcel_tool.specs.Walks.{Counts, Walks, StmtWalks, ActWalks, Then, Either, Rounds, RoundsUpTo, Passes, Shows, held_entry, jump_cost}

@@ -5,11 +5,7 @@ use Rattle.std.specs.List.{flat_map}
 use Rattle.tcel_core.specs.declared.var.Var.{Var}
 use Rattle.tcel_core.specs.declared.var.Keep.{Keep}
 use Rattle.tcel_core.specs.Frames.{is_state}
-use Rattle.tcel_image.specs.declared.costs.Costs.{Costs}
-use Rattle.tcel_image.specs.declared.costs.CostKey.{CostKey}
-use Rattle.tcel_image.specs.declared.costs.CostKey.TheVariants as keys
-use Rattle.tcel_image.specs.Costs.{cost_of, CostsInRange, IsCost}
-use Rattle.tcel_image.specs.Examples.{unit_costs}
+use Rattle.tcel_target.specs.declared.costs.Costs.{Costs}
 use Rattle.tcel_image.specs.declared.image.ImageState.{ImageState}
 use Rattle.tcel_image.specs.declared.image.Line.{Line}
 use Rattle.tcel_tool.specs.declared.plain_tree.PlainDecl.{PlainDecl}
@@ -56,58 +52,6 @@ states_both (x ∷ xs) locals = ap (λ l. state_of (var_of Keep.State x) ∷ l) 
 pub states_of_vars : (decls : List PlainDecl) → states_of (vars_of decls) ≡ map (λ (name : List ℕ). state_of (var_of Keep.State name)) (names_of kinds.State decls)
 states_of_vars decls = states_both (names_of kinds.State decls) (names_of kinds.Local decls)
 
--- ---- costs
-
-unit_cost : IsCost 1
-unit_cost = (omega arith, omega arith)
-
--- each cost is in its range
-pub unit_range : CostsInRange unit_costs
-unit_range keys.Const = unit_cost
-unit_range keys.Load = unit_cost
-unit_range keys.Store = unit_cost
-unit_range keys.LoadAt = unit_cost
-unit_range keys.StoreAt = unit_cost
-unit_range keys.Arith = unit_cost
-unit_range keys.Multiply = unit_cost
-unit_range keys.Divide = unit_cost
-unit_range keys.Jump = unit_cost
-unit_range keys.Branch = unit_cost
-unit_range keys.Loop = unit_cost
-unit_range keys.Receive = unit_cost
-unit_range keys.Send = unit_cost
-unit_range keys.Mark = unit_cost
-unit_range keys.End = unit_cost
-
-made : (a b c d e f g h i j k l m n o : ℕ) → a ≡ 1 → b ≡ 1 → c ≡ 1 → d ≡ 1 → e ≡ 1 → f ≡ 1 → g ≡ 1 → h ≡ 1 → i ≡ 1 → j ≡ 1 → k ≡ 1 → l ≡ 1 → m ≡ 1 → n ≡ 1 → o ≡ 1
-    → (let table : Costs =
-    record {
-      const_ = a;
-      load = b;
-      store = c;
-      load_at = d;
-      store_at = e;
-      arith = f;
-      multiply = g;
-      divide = h;
-      jump = i;
-      branch = j;
-      loop_ = k;
-      receive = l;
-      send = m;
-      mark = n;
-      end = o;
-    }
-    in table ≡ unit_costs)
-made a b c d e f g h i j k l m n o ea eb ec ed ee ef eg eh ei ej ek el em en eo = rw (ea, eb, ec, ed, ee, ef, eg, eh, ei, ej, ek, el, em, en, eo) refl
-
--- the table in which each key costs 1
-pub costs_unit : (costs : Costs) → ((key : CostKey) → cost_of costs key ≡ 1) → costs ≡ unit_costs
-costs_unit costs h =
-    made costs.const_ costs.load costs.store costs.load_at costs.store_at costs.arith costs.multiply costs.divide costs.jump costs.branch costs.loop_ costs.receive costs.send costs.mark costs.end
-    (h keys.Const) (h keys.Load) (h keys.Store) (h keys.LoadAt) (h keys.StoreAt) (h keys.Arith) (h keys.Multiply) (h keys.Divide) (h keys.Jump) (h keys.Branch) (h keys.Loop) (h keys.Receive)
-    (h keys.Send) (h keys.Mark) (h keys.End)
-
 -- ---- the whole
 
 act_loops_none : (decls : List PlainDecl) (s : PlainStmt) → act_loops (act_of decls s) ≡ 0
@@ -136,6 +80,6 @@ task_is tree inputs outputs states cells code i o s c l =
     rw (i, o, s, cells_are, l) refl
 
 -- the image of one task
-pub image_is : (tree : PlainTree) (costs : Costs) (task : ImageTask) (tasks : List ImageTask) → ((key : CostKey) → cost_of costs key ≡ 1)
-    → task ≡ image_task (task_of tree) → tasks ≡ task ∷ [] → (let image : Image = record { costs = costs; tasks = tasks } in image ≡ image_of (set_of tree) unit_costs)
-image_is tree costs task tasks units one only = rw (costs_unit costs units, only, one) refl
+pub image_is : (tree : PlainTree) (costs : Costs) (task : ImageTask) (tasks : List ImageTask)
+    → task ≡ image_task (task_of tree) → tasks ≡ task ∷ [] → (let image : Image = record { costs = costs; tasks = tasks } in image ≡ image_of (set_of tree) costs)
+image_is tree costs task tasks one only = rw (only, one) refl

@@ -10,7 +10,7 @@ use Rattle.tcel_num.specs.Entry.{Entry}
 use Rattle.tcel_core.specs.Meets.{Keeps, IsInTime, told, promised}
 use Rattle.tcel_core.specs.Promises.{Behavior, Promise, frame_promises, promises, first_promises}
 use Rattle.tcel_core.proofs.PromiseLaws.{promises-add, first_promises-prefix}
-use Rattle.tcel_image.specs.declared.costs.Costs.{Costs}
+use Rattle.tcel_target.specs.declared.costs.Costs.{Costs}
 use Rattle.tcel_image.specs.declared.image.ImageTask.{ImageTask}
 use Rattle.tcel_image.specs.Machine.{Running}
 use Rattle.tcel_tool.proofs.Ahead.{Due}

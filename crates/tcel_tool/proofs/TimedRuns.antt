@@ -13,7 +13,7 @@ use Rattle.tcel_core.proofs.Remain.{takes}
 use Rattle.tcel_image.specs.declared.image.Line.{Line}
 use Rattle.tcel_tool.specs.Code.{block_code, hold_code, hold_of}
 use Rattle.tcel_tool.specs.Walks.{held_entry}
-use Rattle.tcel_tool.proofs.Ahead.{Due, holds_on}
+use Rattle.tcel_tool.proofs.Ahead.{Due, has_started, holds_on}
 use Rattle.tcel_tool.proofs.Dues.{AllSuit, suit_inside}
 use Rattle.tcel_tool.proofs.ExprRuns.{Stands, stands_back}
 use Rattle.tcel_tool.proofs.Runs.{release, From, BlockDoes, StmtDoes}
@@ -54,7 +54,7 @@ module _ (s : Setting) where
   held_from None code p entry floor cells others taken dues stands then' ran since h waited low =
       let same : p + 0 ≡ p = omega arith in subst (λ k. AheadAt s ran since k stack (cells ++ others) taken dues) same (then' ran since h waited (omega arith))
   held_from (Some bound) code p entry floor cells others taken dues stands then' ran since h waited low =
-      holds_on costs task inputs bound 0 (ready_at p stack (cells ++ others) frame taken) stands.0 last dues (max (entry + 1) bound) floor (omega arith)
+      holds_on costs task inputs bound 0 (ready_at costs p stack (cells ++ others) frame taken) (has_started costs) stands.0 last dues (max (entry + 1) bound) floor (omega arith)
       (λ ran' since' h' waited' held low'. then' ran' since' h' waited' (omega arith)) (release s + bound) 0 ran since (omega arith) waited (omega arith) low
 
   -- where its body does what it means, a `do` block does

@@ -5,7 +5,7 @@ use Rattle.std.specs.Int.{IsInRange}
 use Rattle.tcel_core.specs.Cells.{all_words}
 use Rattle.tcel_core.specs.Language.{Task}
 use Rattle.tcel_core.specs.Scope.{Fits}
-use Rattle.tcel_image.specs.declared.costs.Costs.{Costs}
+use Rattle.tcel_target.specs.declared.costs.Costs.{Costs}
 use Rattle.tcel_image.specs.declared.image.Instr.TheVariants.{Mark, End}
 use Rattle.tcel_image.specs.Validity.{IsValid, has_twice, own_names}
 use Rattle.tcel_image.proofs.FitLines.{Leads, IsFit, IsFitTask, fit-append, name_of, valid_image}

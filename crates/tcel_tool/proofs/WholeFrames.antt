@@ -13,11 +13,11 @@ use Rattle.tcel_core.specs.Meaning.{exec}
 use Rattle.tcel_core.specs.Outcome.{Memory, Occurrence, Outcome}
 use Rattle.tcel_core.specs.Promises.{behavior_of, event_promise, first_promise, end_promise, frame_promises}
 use Rattle.tcel_core.specs.Windows.{event_of, latest}
-use Rattle.tcel_image.specs.declared.costs.Costs.{Costs}
-use Rattle.tcel_image.specs.declared.costs.CostKey.TheVariants as keys
+use Rattle.tcel_target.specs.declared.costs.Costs.{Costs}
+use Rattle.tcel_target.specs.declared.costs.CostKey.TheVariants as keys
 use Rattle.tcel_image.specs.declared.image.ImageTask.{ImageTask}
 use Rattle.tcel_image.specs.declared.image.Instr.TheVariants.{Mark, End}
-use Rattle.tcel_image.specs.Costs.{CostsInRange}
+use Rattle.tcel_target.specs.Costs.{CostsInRange}
 use Rattle.tcel_image.specs.Machine.{Running, effect, start_task}
 use Rattle.tcel_image.specs.Spelling.{state_words as image_words}
 use Rattle.tcel_image.specs.declared.image.ImageState.{ImageState}
@@ -28,7 +28,7 @@ use Rattle.tcel_core.specs.Contents.{loops}
 use Rattle.tcel_core.specs.Scope.{Fits}
 use Rattle.tcel_tool.specs.Layout.{image_task, states_of}
 use Rattle.tcel_tool.specs.WholePlan.{IsWholePlan}
-use Rattle.tcel_tool.proofs.Ahead.{Due, Ahead, IsAt, makes_last, showing, after_cycles}
+use Rattle.tcel_tool.proofs.Ahead.{Due, Ahead, IsAt, after_ticks, begins, has_started, makes_last, showing, after_cycles}
 use Rattle.tcel_core.proofs.Bodies.{block_words, block_remains}
 use Rattle.tcel_tool.proofs.Dues.{AllSuit}
 use Rattle.tcel_tool.proofs.SteadyWalks.{AreUpTo}
@@ -108,7 +108,7 @@ events_due total period deadline f last service within reached (c ∷ counts) (e
 
 module _ (costs : Costs) (ranges : CostsInRange costs) (t : Task) (fits : Fits t.body t.vars) (plan : Plan) (whole : IsWholePlan t costs plan) (service : ℕ → ℕ) (streams : List (List ℤ)) (long : length streams ≡ length t.inputs)
     (mark_in_time : (f : ℕ) → f * plan.total + (whole.end + costs.mark) ≤ service (f * t.period + t.deadline))
-    (events_in_time : (f end : ℕ) (counts : List ℕ) → RunWalks t.body t.vars costs (start_of t streams f) 0 end counts →
+    (events_in_time : (f end : ℕ) (counts : List ℕ) → RunWalks t.body t.vars costs (start_of t streams f) costs.dispatch end counts →
     EachDue (IsDue plan.total t.period service f) (dues_of f (f * t.period) t.deadline counts (exec t.body t.vars (start_of t streams f)).events)) where
   abbrev pub task : ImageTask
   task = image_task t
@@ -143,8 +143,12 @@ module _ (costs : Costs) (ranges : CostsInRange costs) (t : Task) (fits : Fits t
   abbrev counters : List ℤ
   counters = replicate (loops t.body) (pos 0)
 
+  -- a frame behind the ticks of its start
+  abbrev started : ℕ → Running
+  started f = ready_at costs 0 [] ((from f).cells ++ counters) f (taken f)
+
   abbrev start : ℕ → Running
-  start f = ready_at 0 [] ((from f).cells ++ counters) f (taken f)
+  start f = after_ticks 0 (started f)
 
   abbrev body_code : List Line
   body_code = block_code t.body t.vars 0 (all_words t.vars)
@@ -160,10 +164,10 @@ module _ (costs : Costs) (ranges : CostsInRange costs) (t : Task) (fits : Fits t
   setting f = record { costs = costs; ranges = ranges; task = task; inputs = streams; last = start (suc f); vars = t.vars; frame = f; stack = [] }
 
   -- a frame's body on the machine
-  runs : (f : ℕ) → Runs (setting f) (RunWalks t.body t.vars costs (from f)) body_code (does f) 0 0 0 0 (from f).cells counters (taken f)
+  runs : (f : ℕ) → Runs (setting f) (RunWalks t.body t.vars costs (from f)) body_code (does f) 0 0 costs.dispatch 0 (from f).cells counters (taken f)
   runs f =
       let many = length-replicate (loops t.body) (pos 0) in
-      block_runs (setting f) t.body fits (from f) 0 0 0 0 (all_words t.vars) counters (taken f) (record { words = words f; room = omega arith; remain = remain f }) (omega arith)
+      block_runs (setting f) t.body fits (from f) 0 0 costs.dispatch 0 (all_words t.vars) counters (taken f) (record { words = words f; room = omega arith; remain = remain f }) (omega arith)
       (stands_front task.code 0 body_code last_code stands)
 
   abbrev mark_due : ℕ → Due
@@ -202,29 +206,30 @@ module _ (costs : Costs) (ranges : CostsInRange costs) (t : Task) (fits : Fits t
 
   -- the last instruction leaves the start of the next frame
   frame_ends : (f p spent : ℕ) →
-      effect (image_words task.states) streams End (after_cycles spent (ready_at p [] ((does f).memory.cells ++ (runs f).left) f (taken (suc f)))) ≡ showing (end_entry (state_of t.vars (does f).memory.cells)) (start (suc f))
+      effect (image_words task.states) streams End (after_cycles spent (ready_at costs p [] ((does f).memory.cells ++ (runs f).left) f (taken (suc f)))) ≡ showing (end_entry (state_of t.vars (does f).memory.cells)) (start (suc f))
   frame_ends f p spent =
       let next_frame : f + 1 ≡ suc f = omega arith in
-      ap (λ s. showing (end_entry s) (ready_at 0 [] (take (image_words task.states) ((does f).memory.cells ++ (runs f).left) ++ replicate (length ((does f).memory.cells ++ (runs f).left) - image_words task.states) (pos 0)) (f + 1) (taken (suc f)))) (end_states f)
-      ∙ ap (λ l. showing (end_entry (state_of t.vars (does f).memory.cells)) (ready_at 0 [] l (f + 1) (taken (suc f)))) (end_cells f)
-      ∙ ap (λ e. showing (end_entry (state_of t.vars (does f).memory.cells)) (ready_at 0 [] ((from (suc f)).cells ++ counters) e (taken (suc f)))) next_frame
+      ap (λ s. showing (end_entry s) (after_ticks 0 (ready_at costs 0 [] (take (image_words task.states) ((does f).memory.cells ++ (runs f).left) ++ replicate (length ((does f).memory.cells ++ (runs f).left) - image_words task.states) (pos 0)) (f + 1) (taken (suc f))))) (end_states f)
+      ∙ ap (λ l. showing (end_entry (state_of t.vars (does f).memory.cells)) (after_ticks 0 (ready_at costs 0 [] l (f + 1) (taken (suc f))))) (end_cells f)
+      ∙ ap (λ e. showing (end_entry (state_of t.vars (does f).memory.cells)) (after_ticks 0 (ready_at costs 0 [] ((from (suc f)).cells ++ counters) e (taken (suc f))))) next_frame
 
   ahead : (f : ℕ) → Ahead costs task streams (start (suc f)) 0 (f * t.period) (start f) (dues f)
   ahead f =
       let cells = (does f).memory.cells ++ (runs f).left in
       let p : ℕ = 0 + length body_code in
       let behind = stands_back task.code 0 body_code last_code stands in
-      let r = ready_at (p + 1) [] cells f (taken (suc f)) in
+      let r = ready_at costs (p + 1) [] cells f (taken (suc f)) in
       let more : ℕ = costs.end - 1 in
       let some : 0 < costs.end = (ranges keys.End).0 in
       let n : costs.end ≡ suc more = omega arith in
-      let is : IsAt costs task End more r = record { depth = 0; here = behind.1.0; lasts = λ now spent. ap (λ k. nat_le k (spent + 1)) n } in
-      (runs f).ahead (event_dues f) (mark_due f ∷ end_due f ∷ []) (dues_suit f (f * t.period) t.deadline (runs f).counts (does f).events (runs f).each)
+      let is : IsAt costs task End more r = record { started = has_started costs; depth = 0; here = behind.1.0; lasts = λ now spent. ap (λ k. nat_le k (spent + 1)) n } in
+      begins costs task streams (started f) (start (suc f)) (dues f) (f * t.period)
+      ((runs f).ahead (event_dues f) (mark_due f ∷ end_due f ∷ []) (dues_suit f (f * t.period) t.deadline (runs f).counts (does f).events (runs f).each)
       (λ ran since h waited low.
       show_step (setting f) Mark 0 (λ now r. refl) (ranges keys.Mark).0 p (p + 1) ran since [] [] cells cells (taken (suc f)) (taken (suc f))
       (mark_due f) (end_due f ∷ []) behind.0 (λ spent. refl) (omega arith) (omega arith)
       (makes_last costs task streams End more r is (start (suc f)) (end_due f) (ran + costs.mark) (since + costs.mark) (frame_ends f (p + 1) more) (omega arith) (omega arith)))
-      0 (f * t.period) (omega arith) (omega arith) (omega arith)
+      costs.dispatch (f * t.period + costs.dispatch) (omega arith) (omega arith) (omega arith))
 
   made : (f : ℕ) → map promise_of (dues f) ≡ frame_promises (behavior_of t streams) f
   made f =
@@ -235,7 +240,7 @@ module _ (costs : Costs) (ranges : CostsInRange costs) (t : Task) (fits : Fits t
   each : (f : ℕ) → EachDue (IsDue plan.total t.period service f) (dues f)
   each f =
       let P : Due → Type 0 = IsDue plan.total t.period service f in
-      let longest : (runs f).end ≤ whole.end = whole.longest.greatest (runs f).end ((runs f).counts, run_walk t.body t.vars costs (from f) 0 (runs f).end (runs f).counts (runs f).walk) in
+      let longest : (runs f).end ≤ whole.end = whole.longest.greatest (runs f).end ((runs f).counts, run_walk t.body t.vars costs (from f) costs.dispatch (runs f).end (runs f).counts (runs f).walk) in
       let total = whole.total in
       let soon = mark_in_time f in
       let mark : P (mark_due f) = record {
@@ -266,7 +271,7 @@ module _ (costs : Costs) (ranges : CostsInRange costs) (t : Task) (fits : Fits t
       let many = ap length declared ∙ length-declared_state t.vars in
       let within = states_within t.vars in
       let zeros : (all_words t.vars - state_words t.vars) + loops t.body ≡ all_words t.vars + loops t.body - length states = omega arith in
-      ap (λ cells. ready_at 0 [] cells 0 (map (λ _. 0) t.inputs))
+      ap (λ cells. after_ticks 0 (ready_at costs 0 [] cells 0 (map (λ _. 0) t.inputs)))
       (append_assoc (declared_state t.vars) (replicate (all_words t.vars - state_words t.vars) (pos 0)) counters
       ∙ ap (λ l. declared_state t.vars ++ l) (replicate-append-replicate (all_words t.vars - state_words t.vars) (loops t.body) (pos 0))
       ∙ ap (λ l. l ++ replicate ((all_words t.vars - state_words t.vars) + loops t.body) (pos 0)) (sym declared)

@@ -11,8 +11,8 @@ use Rattle.tcel_core.specs.Meaning.{exec}
 use Rattle.tcel_core.specs.Meets.{Meets, Shows, behaviors_of}
 use Rattle.tcel_core.specs.Promises.{behavior_of as task_behavior}
 use Rattle.tcel_core.specs.Scope.{Fits, LoopsAreUntimed}
-use Rattle.tcel_image.specs.declared.costs.Costs.{Costs}
-use Rattle.tcel_image.specs.Costs.{CostsInRange}
+use Rattle.tcel_target.specs.declared.costs.Costs.{Costs}
+use Rattle.tcel_target.specs.Costs.{CostsInRange}
 use Rattle.tcel_image.specs.Machine.{Streams, trace}
 use Rattle.tcel_tool.specs.Layout.{image_of, image_task}
 use Rattle.tcel_tool.specs.WholePlan.{IsWholePlan}
@@ -49,21 +49,21 @@ module _ (costs : Costs) (ranges : CostsInRange costs) (plans : List Plan) (stre
   mark_in_time n t plan s f = (points_in_time n t plan s f).0
 
   -- each event is made by its latest time
-  events_in_time : (n : ℕ) (t : Task) (plan : Plan) (s : Serves n t plan) (f end : ℕ) (counts : List ℕ) → RunWalks t.body t.vars costs (start_of t (slice_index_or streams n []) f) 0 end counts →
+  events_in_time : (n : ℕ) (t : Task) (plan : Plan) (s : Serves n t plan) (f end : ℕ) (counts : List ℕ) → RunWalks t.body t.vars costs (start_of t (slice_index_or streams n []) f) costs.dispatch end counts →
       EachDue (IsDue plan.total t.period (λ time. served plans time n) f)
       (dues_of f (f * t.period) t.deadline counts (exec t.body t.vars (start_of t (slice_index_or streams n []) f)).events)
   events_in_time n t plan s f end counts walk =
       let total = s.whole.total in
       let from = start_of t (slice_index_or streams n []) f in
-      let is_walk = run_walk t.body t.vars costs from 0 end counts walk in
+      let is_walk = run_walk t.body t.vars costs from costs.dispatch end counts walk in
       let longest = s.whole.longest.greatest end (counts, is_walk) in
       let service : ℕ → ℕ = λ time. served plans time n in
       let reaches : ℕ → ℕ → Type 0 = Reaches plan.total t.period f service in
       let in_time = points_in_time n t plan s f in
-      let by_end = order_by_end counts 0 end ((block_steady t.body t.vars costs).ordered 0 end counts is_walk) in
+      let by_end = order_by_end counts costs.dispatch end ((block_steady t.body t.vars costs).ordered costs.dispatch end counts is_walk) in
       events_due plan.total t.period t.deadline f (s.whole.end + costs.mark) service (omega arith) in_time.0 counts (exec t.body t.vars from).events
       (upto_later end (s.whole.end + costs.mark) counts (omega arith) by_end)
-      (block_bound reaches (λ count later bound le h. omega arith) t.body t.vars s.fits s.loops costs from 0 0 end counts s.whole.windows (omega arith) s.whole.in_text in_time.1 walk)
+      (block_bound reaches (λ count later bound le h. omega arith) t.body t.vars s.fits s.loops costs from costs.dispatch costs.dispatch end counts s.whole.windows (omega arith) s.whole.in_text in_time.1 walk)
 
   site_of : (n : ℕ) (t : Task) (plan : Plan) → Serves n t plan → Site costs plans streams
   site_of n t plan s = record {

@@ -9,13 +9,13 @@ use Rattle.tcel_demand.proofs.Hyperperiods.{own_hyperperiod, own_demand}
 use Rattle.tcel_demand.proofs.Responses.{always_within, never_late}
 use Rattle.tcel_demand.proofs.Served.{AreWhole}
 use Rattle.tcel_core.specs.Scope.{TaskFits}
-use Rattle.tcel_image.specs.Examples.{unit_costs}
+use Rattle.tcel_target.specs.Costs.{unit_costs}
 use Rattle.tcel_tool.specs.Examples.{passing_body, windowed_task, windowed_plan}
 use Rattle.tcel_tool.specs.Headline.{RunsMeet}
 use Rattle.tcel_tool.specs.Walks.{Counts, Walks, Shows, IsTotal, IsFirst, IsFirstCount, IsLastCount}
 use Rattle.tcel_tool.specs.WholePlan.{AreWholePlans, AreBlockPoints, IsWholePlan}
 use Rattle.tcel_tool.proofs.NeverLateSets.{whole_sets_meet}
-use Rattle.tcel_tool.proofs.Straight.{unit_range}
+use Rattle.tcel_target.proofs.Keys.{unit_in_range}
 
 -- ---- in scope
 
@@ -147,4 +147,4 @@ windowed-in_time = λ place late. in_time place.task place.frame place.point lat
 pub windowed-meets : RunsMeet (windowed_task ∷ []) unit_costs (windowed_plan ∷ [])
 windowed-meets =
     let all = own_demand windowed_plan (lit< tt) in
-    whole_sets_meet (windowed_task ∷ []) unit_costs (windowed_plan ∷ []) 10 windowed-fits unit_range windowed-plan (own_hyperperiod windowed_plan (lit< tt)) (omega arith) windowed-in_time
+    whole_sets_meet (windowed_task ∷ []) unit_costs (windowed_plan ∷ []) 10 windowed-fits unit_in_range windowed-plan (own_hyperperiod windowed_plan (lit< tt)) (omega arith) windowed-in_time

@@ -1,7 +1,9 @@
 -- The worked examples that don't compute by themselves.
 use Rattle.std.proofs.Common.{◌≡◌, ◌≤◌, ◌+◌, ◌++◌, ℕ, [], ◌∷◌, List, refl, codes, inl, inr, arith}
 use Rattle.std.specs.Fmt.{digits}
-use Rattle.tcel_image.specs.Examples.{unit_costs}
+use Rattle.tcel_target.specs.Costs.{unit_costs}
+use Rattle.std.proofs.Common.{rules}
+use Rattle.tcel_tool.specs.PlainTree.{IsPlain}
 use Rattle.tcel_tool.specs.CanonicalText.{text_of}
 use Rattle.tcel_tool.specs.Examples.{echo_tree, branching_vars, branching_body}
 use Rattle.tcel_tool.specs.Walks.{Counts, Walks, IsTotal, EndsAt, Passes, Shows, Then}
@@ -37,3 +39,6 @@ branching-total = record {
   );
   greatest = branching-ends;
 }
+
+pub echo-plain : IsPlain echo_tree
+echo-plain = search rules

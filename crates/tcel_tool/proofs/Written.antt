@@ -5,7 +5,7 @@ use Rattle.std.specs.List.{AllZip}
 use Rattle.std.proofs.lemmas.List.{length-map}
 use Rattle.tcel_core.specs.Language.{Task}
 use Rattle.tcel_core.specs.Meets.{Meets}
-use Rattle.tcel_image.specs.declared.costs.Costs.{Costs}
+use Rattle.tcel_target.specs.declared.costs.Costs.{Costs}
 use Rattle.tcel_image.specs.declared.image.Image.{Image}
 use Rattle.tcel_image.specs.Machine.{Streams, trace}
 use Rattle.tcel_image.proofs.Whole.{told_apart, reading_again}

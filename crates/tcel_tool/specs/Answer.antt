@@ -1,10 +1,14 @@
 -- What a call of `compile` answers, and what it does to its files and streams.
-use Rattle.std.specs.Prelude.{◌≡◌, ◌≢◌, ℕ, ◌+◌, ◌<◌, ◌≤◌, ◌⊎◌, Bool, true, false, List, [], ◌∷◌, Option, IfSome, length, codes}
+use Rattle.std.specs.Prelude.{◌≡◌, ◌≢◌, ℕ, ◌<◌, ◌≤◌, ◌⊎◌, Bool, true, false, List, [], ◌∷◌, Option, IfSome, Err, length, codes}
 use Rattle.tcel_num.specs.Plan.{Plan}
 use Rattle.tcel_io.specs.Load.{Load, AddsLoads}
 use Rattle.tcel_io.specs.declared.loaded.Outcome.{Outcome}
 use Rattle.tcel_io.specs.declared.loaded.Outcome.TheVariants.{Done, Fault, TooLong}
-use Rattle.tcel_image.specs.Examples.{unit_costs}
+use Rattle.tcel_target.specs.declared.costs.Costs.{Costs}
+use Rattle.tcel_target.specs.declared.fail.TargetFail.{TargetFail}
+use Rattle.tcel_target.specs.declared.fail.TargetFail.TheVariants as fails
+use Rattle.tcel_target.specs.Costs.{CostsInRange}
+use Rattle.tcel_target.specs.Target.{IsTarget, Says}
 use Rattle.tcel_tool.specs.declared.plain_tree.PlainTree.{PlainTree}
 use Rattle.tcel_tool.specs.declared.status.Status.{Status}
 use Rattle.tcel_tool.specs.declared.status.Status.TheVariants as statuses
@@ -13,7 +17,7 @@ use Rattle.tcel_tool.specs.CanonicalText.{text_of}
 use Rattle.tcel_num.specs.Hyperperiod.{IsHyperperiod, demand}
 use Rattle.tcel_tool.specs.Layout.{written}
 use Rattle.tcel_tool.specs.PlainTree.{IsPlain, IsWritable, set_of}
-use Rattle.tcel_tool.specs.StraightPlan.{body_cycles}
+use Rattle.tcel_tool.specs.StraightPlan.{frame_ticks}
 use Rattle.tcel_tool.specs.WholePlan.{AreWholePlans}
 
 -- ---- the words
@@ -65,18 +69,14 @@ AreLoads program target statuses.NoMemory loads =
 AreLoads program target (statuses.Image fail) loads = ⊥
 AreLoads program target (statuses.Flaw flaw) loads = ⊥
 AreLoads program target (statuses.Script fail) loads = ⊥
-AreLoads program target (statuses.Beyond word) loads = (limit : ℕ) × EndWith Done program target word limit loads
+AreLoads program target (statuses.Target fail) loads = loads ≡ both_loads program target
+AreLoads program target (statuses.Beyond word) loads = (word ≡ 1) × (loads ≡ program_load program Done ∷ [])
 
 -- a second file is loaded only where this is so
 abbrev pub SecondAfter : Type 0 → List Load → Type 0
 SecondAfter Accepted loads = 2 ≤ length loads → Accepted
 
 -- ---- the answer
-
--- the target in which each cost is 1 cycle
-abbrev pub unit_target : List ℕ
-unit_target =
-    codes "const = 1\nload = 1\nstore = 1\nload_at = 1\nstore_at = 1\narith = 1\nmultiply = 1\ndivide = 1\njump = 1\nbranch = 1\nloop = 1\nreceive = 1\nsend = 1\nmark = 1\nend = 1\n"
 
 -- the program's bytes, where they are told, are the canonical text of this plain tree, whose names are names and whose numbers fit 64 bits
 pub record Accepts (program : Option (List ℕ)) (tree : PlainTree) : Type 0 where
@@ -88,37 +88,44 @@ pub record Accepts (program : Option (List ℕ)) (tree : PlainTree) : Type 0 whe
 abbrev pub AcceptsSome : Option (List ℕ) → Type 0
 AcceptsSome program = (tree : PlainTree) × Accepts program tree
 
+-- the target's bytes, where they are told, are a target with these costs
+pub record GivesCosts (target : Option (List ℕ)) (costs : Costs) : Type 0 where
+  pub ranges : CostsInRange costs
+  pub text : IfSome target (λ bytes. IsTarget bytes costs)
+
+-- they have this fault
+abbrev pub HasFault : Option (List ℕ) → TargetFail → Type 0
+HasFault target fails.NoMemory = ⊥
+HasFault target fail = IfSome target (λ bytes. Says bytes (Err fail))
+
 -- the frames of a hyperperiod ask for so many cycles
-pub record Demands (tree : PlainTree) (cycles hyper : ℕ) : Type 0 where
+pub record Demands (tree : PlainTree) (costs : Costs) (cycles hyper : ℕ) : Type 0 where
   pub plans : List Plan
-  pub whole : AreWholePlans (set_of tree) unit_costs plans
+  pub whole : AreWholePlans (set_of tree) costs plans
   pub period : IsHyperperiod plans hyper
   pub cycles_of : cycles ≡ demand plans hyper
 
 -- the bytes of the image of the tree's set
-abbrev pub image_bytes : PlainTree → List ℕ
-image_bytes tree = written (set_of tree) unit_costs
+abbrev pub image_bytes : PlainTree → Costs → List ℕ
+image_bytes tree costs = written (set_of tree) costs
 
--- the program is accepted, the target is that of unit costs, and the demand fits the hyperperiod
-pub record Compiles (program target : Option (List ℕ)) (tree : PlainTree) : Type 0 where
+-- the program and the target are accepted, and the demand fits the hyperperiod
+pub record Compiles (program target : Option (List ℕ)) (tree : PlainTree) (costs : Costs) : Type 0 where
   pub accepts : Accepts program tree
-  pub unit : IfSome target (λ bytes. bytes ≡ unit_target)
+  pub gives : GivesCosts target costs
   pub cycles : ℕ
   pub hyper : ℕ
-  pub demands : Demands tree cycles hyper
+  pub demands : Demands tree costs cycles hyper
   pub fits : cycles ≤ hyper
 
 -- the same, but the demand is above the hyperperiod
-pub record Overloads (program target : Option (List ℕ)) (tree : PlainTree) (cycles hyper : ℕ) : Type 0 where
+pub record Overloads (program target : Option (List ℕ)) (cycles hyper : ℕ) : Type 0 where
+  pub tree : PlainTree
   pub accepts : Accepts program tree
-  pub unit : IfSome target (λ bytes. bytes ≡ unit_target)
-  pub demands : Demands tree cycles hyper
+  pub costs : Costs
+  pub gives : GivesCosts target costs
+  pub demands : Demands tree costs cycles hyper
   pub above : hyper < cycles
-
--- the program is accepted, and the target is another one
-pub record HasOtherTarget (program target : Option (List ℕ)) (tree : PlainTree) : Type 0 where
-  pub accepts : Accepts program tree
-  pub other : IfSome target (λ bytes. bytes ≢ unit_target)
 
 -- no plain tree, whose names are names and whose numbers fit 64 bits, has the program's bytes, where they are told, as its canonical text
 abbrev pub HasNoPlainText : Option (List ℕ) → Type 0
@@ -126,13 +133,13 @@ HasNoPlainText program = (tree : PlainTree) → IsPlain tree → IsWritable tree
 
 -- when a call gives this status, for the bytes of its files where they are told, what out took whole, and what it took in part
 abbrev pub Answers : Option (List ℕ) → Option (List ℕ) → (List ℕ → Type 0) → (List ℕ → Type 0) → Status → Type 0
-Answers program target TookAll TookSome statuses.Ok = (tree : PlainTree) × Compiles program target tree × TookAll (image_bytes tree)
-Answers program target TookAll TookSome (statuses.Overload cycles hyper) = (tree : PlainTree) × Overloads program target tree cycles hyper
+Answers program target TookAll TookSome statuses.Ok = (tree : PlainTree) × (costs : Costs) × Compiles program target tree costs × TookAll (image_bytes tree costs)
+Answers program target TookAll TookSome (statuses.Overload cycles hyper) = Overloads program target cycles hyper
 Answers program target TookAll TookSome (statuses.Limit (limits.Bytes word limit)) =
     ((word ≡ 1) × IfSome program (λ bytes. limit < length bytes)) ⊎ ((word ≡ 2) × IfSome target (λ bytes. limit < length bytes))
-Answers program target TookAll TookSome statuses.WriteFault = (tree : PlainTree) × Compiles program target tree × TookSome (image_bytes tree)
-Answers program target TookAll TookSome (statuses.Beyond word) =
-    ((word ≡ 1) × HasNoPlainText program) ⊎ ((word ≡ 2) × ((tree : PlainTree) × HasOtherTarget program target tree))
+Answers program target TookAll TookSome statuses.WriteFault = (tree : PlainTree) × (costs : Costs) × Compiles program target tree costs × TookSome (image_bytes tree costs)
+Answers program target TookAll TookSome (statuses.Target fail) = AcceptsSome program × HasFault target fail
+Answers program target TookAll TookSome (statuses.Beyond word) = (word ≡ 1) × HasNoPlainText program
 Answers program target TookAll TookSome _ = Unit {0}
 
 -- whether a call with this status puts something into out
@@ -161,16 +168,19 @@ IsLoadRefusal name word limit told old new (statuses.Limit (limits.Bytes w l)) =
 IsLoadRefusal name word limit told old new statuses.NoMemory = AddsLoads [] old new
 IsLoadRefusal name word limit told old new _ = ⊥
 
--- the target gives no table, with this status: it can't be loaded, or it is another one than that of unit costs
+-- the loaded target isn't accepted: it has a fault, or there is no memory
+abbrev pub IsTargetRefusal : Option (List ℕ) → Status → Type 0
+IsTargetRefusal target status = (status ≡ statuses.NoMemory) ⊎ ((fail : TargetFail) × (status ≡ statuses.Target fail) × HasFault target fail)
+
+-- the target gives no costs, with this status: it can't be loaded, or it isn't accepted
 abbrev pub RefusesTarget : List ℕ → (List ℕ → Option (List ℕ)) → List Load → List Load → Status → Type 0
-RefusesTarget target told old new (statuses.Beyond w) =
-    (w ≡ 2) × AddsLoads (target_load target Done ∷ []) old new × IfSome (told target) (λ bytes. bytes ≢ unit_target)
-RefusesTarget target told old new status = IsLoadRefusal target 2 target_limit told old new status
+RefusesTarget target told old new status =
+    IsLoadRefusal target 2 target_limit told old new status ⊎ (AddsLoads (target_load target Done ∷ []) old new × IsTargetRefusal (told target) status)
 
 -- the frames ask for more cycles than their period has
-abbrev pub IsOverload : PlainTree → Status → Type 0
-IsOverload tree status = (status ≡ statuses.Overload (body_cycles tree.body + 2) tree.period) × (tree.period < body_cycles tree.body + 2)
+abbrev pub IsOverload : PlainTree → Costs → Status → Type 0
+IsOverload tree costs status = (status ≡ statuses.Overload (frame_ticks costs tree) tree.period) × (tree.period < frame_ticks costs tree)
 
 -- why an accepted tree has no image for a target that is accepted too
-abbrev pub IsLateRefusal : PlainTree → Status → Type 0
-IsLateRefusal tree status = IsOverload tree status ⊎ (status ≡ statuses.NoMemory)
+abbrev pub IsLateRefusal : PlainTree → Costs → Status → Type 0
+IsLateRefusal tree costs status = IsOverload tree costs status ⊎ (status ≡ statuses.NoMemory)

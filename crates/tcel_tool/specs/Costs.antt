@@ -2,7 +2,7 @@
 use Rattle.std.specs.Prelude.{ℕ, List, sum_by}
 use Rattle.tcel_core.specs.declared.var.Var.{Var}
 use Rattle.tcel_core.specs.Language.{Expr}
-use Rattle.tcel_image.specs.declared.costs.Costs.{Costs}
+use Rattle.tcel_target.specs.declared.costs.Costs.{Costs}
 use Rattle.tcel_image.specs.declared.image.Line.{Line}
 use Rattle.tcel_image.specs.Instructions.{cycles}
 use Rattle.tcel_tool.specs.Code.{expr_code}

@@ -27,6 +27,10 @@ echo_tree =
           ∷ stmts.Assign (codes "n") (exprs.Two ops.Add (operands.Var (codes "n")) (operands.Number (pos 1))) ∷ [];
     }
 
+-- its plan where each cost is another: 15 ticks for the start, 12, 15 and 12 cycles for the statements, 14 for the mark and 16 for the end
+abbrev pub dispatched_plan : Plan
+dispatched_plan = record { period = 10; total = 84; points = record { prefix = 68; bound = 10; name = frame } ∷ [] }
+
 -- n, y and x
 abbrev pub branching_vars : List Var
 branching_vars =

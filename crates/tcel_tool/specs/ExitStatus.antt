@@ -11,6 +11,7 @@ exit_status statuses.Words = 4
 exit_status (statuses.ReadFault word) = 5
 exit_status statuses.WriteFault = 6
 exit_status statuses.NoMemory = 7
+exit_status (statuses.Target fail) = 8
 exit_status (statuses.Image fail) = 9
 exit_status (statuses.Flaw flaw) = 9
 exit_status (statuses.Script fail) = 10

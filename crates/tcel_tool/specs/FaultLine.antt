@@ -7,6 +7,9 @@ use Rattle.tcel_image.specs.declared.fault.ImageFail.TheVariants as fails
 use Rattle.tcel_image.specs.declared.flaw.Flaw.{Flaw}
 use Rattle.tcel_image.specs.declared.flaw.FlawKind.{FlawKind}
 use Rattle.tcel_image.specs.declared.flaw.FlawKind.TheVariants as flaws
+use Rattle.tcel_target.specs.declared.fail.TargetFail.{TargetFail}
+use Rattle.tcel_target.specs.declared.fail.TargetFail.TheVariants as targets
+use Rattle.tcel_target.specs.Target.{key_text}
 use Rattle.tcel_script.specs.declared.fail.ScriptFail.{ScriptFail}
 use Rattle.tcel_script.specs.declared.fail.ScriptFail.TheVariants as scripts
 use Rattle.tcel_tool.specs.declared.status.Status.{Status}
@@ -44,6 +47,14 @@ flaw_text flaws.FallsOff = codes "falls off"
 abbrev pub flaw_pieces : Flaw → List (List ℕ)
 flaw_pieces flaw = codes "image: " ∷ flaw_text flaw.kind ∷ codes " task " ∷ decimal flaw.task ∷ codes " pc " ∷ decimal flaw.pc ∷ codes "\n" ∷ []
 
+-- the fault of a target
+abbrev pub target_pieces : TargetFail → List (List ℕ)
+target_pieces targets.NotToml = codes "target: not toml\n" ∷ []
+target_pieces (targets.Strange text) = codes "target: strange " ∷ text ∷ codes "\n" ∷ []
+target_pieces (targets.Missing key) = codes "target: missing " ∷ key_text key ∷ codes "\n" ∷ []
+target_pieces (targets.Range key) = codes "target: range " ∷ key_text key ∷ codes "\n" ∷ []
+target_pieces targets.NoMemory = codes "no memory\n" ∷ []
+
 -- the first faulty line of a script
 abbrev pub script_pieces : ScriptFail → List (List ℕ)
 script_pieces (scripts.BadLine line) = codes "script " ∷ decimal line ∷ codes ": bad line\n" ∷ []
@@ -61,6 +72,7 @@ fault_pieces words statuses.Words = codes "words: no command has this form\n" �
 fault_pieces words (statuses.ReadFault word) = codes "read fault: " ∷ word_at words word ∷ codes "\n" ∷ []
 fault_pieces words statuses.WriteFault = codes "write fault\n" ∷ []
 fault_pieces words statuses.NoMemory = codes "no memory\n" ∷ []
+fault_pieces words (statuses.Target fail) = target_pieces fail
 fault_pieces words (statuses.Image fail) = image_pieces fail
 fault_pieces words (statuses.Flaw flaw) = flaw_pieces flaw
 fault_pieces words (statuses.Script fail) = script_pieces fail

@@ -7,8 +7,8 @@ use Rattle.tcel_num.specs.Plan.{Plan}
 use Rattle.tcel_core.specs.Language.{Task}
 use Rattle.tcel_core.specs.Meets.{Meets}
 use Rattle.tcel_core.specs.Scope.{TaskFits}
-use Rattle.tcel_image.specs.declared.costs.Costs.{Costs}
-use Rattle.tcel_image.specs.Costs.{CostsInRange}
+use Rattle.tcel_target.specs.declared.costs.Costs.{Costs}
+use Rattle.tcel_target.specs.Costs.{CostsInRange}
 use Rattle.tcel_image.specs.Machine.{Streams, trace}
 use Rattle.tcel_image.specs.Spelling.{InRange}
 use Rattle.tcel_image.specs.Validity.{IsValid}

@@ -5,7 +5,7 @@ use Rattle.tcel_core.specs.declared.var.VarKind.{VarKind}
 use Rattle.tcel_core.specs.Cells.{all_words, words_of}
 use Rattle.tcel_core.specs.Frames.{is_state, first_words}
 use Rattle.tcel_core.specs.Language.{Task}
-use Rattle.tcel_image.specs.declared.costs.Costs.{Costs}
+use Rattle.tcel_target.specs.declared.costs.Costs.{Costs}
 use Rattle.tcel_image.specs.declared.image.Image.{Image}
 use Rattle.tcel_image.specs.declared.image.ImageTask.{ImageTask}
 use Rattle.tcel_image.specs.declared.image.ImageState.{ImageState}

@@ -3,7 +3,7 @@ use Rattle.std.specs.Prelude.{◌≡◌, ℕ, ◌+◌, List, [], ◌∷◌, ◌+
 use Rattle.tcel_num.specs.Plan.{Plan, Point, PointName, frame, before, within}
 use Rattle.tcel_core.specs.declared.var.Var.{Var}
 use Rattle.tcel_core.specs.Language.{Window, Block, done, next, Stmt, item, choice, timed, Task}
-use Rattle.tcel_image.specs.declared.costs.Costs.{Costs}
+use Rattle.tcel_target.specs.declared.costs.Costs.{Costs}
 use Rattle.tcel_core.specs.Contents.{has_event}
 use Rattle.tcel_tool.specs.Code.{hold_of}
 use Rattle.tcel_tool.specs.Costs.{expr_cycles}
@@ -42,14 +42,14 @@ abbrev mutual
       × ArePoints body vars costs inner nested
       × (points ≡ own ++ nested)
 
--- the plan: the body from count 0, the mark and the end; the frame's point at the mark, and the points of its blocks
+-- the plan: the body, which is entered when the frame has started, the mark and the end; the frame's point at the mark, and the points of its blocks
 pub record IsWholePlan (task : Task) (costs : Costs) (plan : Plan) : Type 0 where
   pub period : plan.period ≡ task.period
   pub end : ℕ
-  pub longest : IsTotal (Walks task.body task.vars costs) 0 end
+  pub longest : IsTotal (Walks task.body task.vars costs) costs.dispatch end
   pub total : plan.total ≡ end + costs.mark + costs.end
   pub windows : List Point
-  pub in_text : ArePoints task.body task.vars costs 0 windows
+  pub in_text : ArePoints task.body task.vars costs costs.dispatch windows
   pub points : plan.points ≡ record { prefix = end + costs.mark; bound = task.deadline; name = frame } ∷ windows
 
 -- the plans of a set of which no task is sliced

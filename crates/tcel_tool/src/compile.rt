@@ -5,31 +5,30 @@ ghost use Rattle.tcel_io.specs.Reach.{ReachesWithin};
 ghost use Rattle.tcel_io.specs.Shelf.{TellsTheSame};
 ghost use Rattle.tcel_io.specs.Taken.{Takes, TakesPrefix};
 ghost use Rattle.tcel_io.specs.declared.loaded.Outcome.TheVariants.{Done};
-ghost use Rattle.tcel_tool.specs.Answer.{Accepts, AcceptsSome, Answers, AreLoads, Compiles, IsLateRefusal, IsOverload, IsTextRefusal, Refuses, both_loads, image_bytes, load_of, program_load, target_load, unit_target, writes, IsLoadRefusal, RefusesTarget, SecondAfter};
+ghost use Rattle.tcel_target.specs.Costs.{CostsInRange};
+ghost use Rattle.tcel_target.specs.declared.costs.Costs.{Costs};
+ghost use Rattle.tcel_tool.specs.Answer.{Accepts, AcceptsSome, Answers, AreLoads, Compiles, GivesCosts, IsLateRefusal, IsOverload, IsTargetRefusal, IsTextRefusal, Refuses, both_loads, image_bytes, load_of, program_load, target_load, writes, IsLoadRefusal, RefusesTarget, SecondAfter};
 ghost use Rattle.tcel_tool.specs.PlainTree.{IsPlain, IsWritable};
-ghost use Rattle.tcel_tool.specs.StraightPlan.{body_cycles};
+ghost use Rattle.tcel_tool.specs.StraightPlan.{frame_ticks};
 ghost use Rattle.tcel_tool.specs.declared.plain_tree.PlainTree.{PlainTree};
 
 use crate::canonical::is_text_of;
 use crate::generate::image_of;
 use crate::plain_check::is_plain;
 use crate::plain_tree::PlainTree;
-use crate::plan::total_cycles;
+use crate::plan::frame_ticks;
 use crate::read::{ReadFail, read_tree};
 use crate::status::{LimitFault, Status};
 use std::alloc::Global;
 use tcel_image::encode;
 use tcel_io::{LoadFail, Shelf, Sink};
+use tcel_target::{Costs, TargetFail, read_target};
 
 /// The most bytes of a program.
 const PROGRAM_LIMIT: usize = 1_048_576;
 
 /// The most bytes of a target.
 const TARGET_LIMIT: usize = 65_536;
-
-/// The target in which each cost is 1 cycle.
-const UNIT_TARGET: &[u8] =
-    b"const = 1\nload = 1\nstore = 1\nload_at = 1\nstore_at = 1\narith = 1\nmultiply = 1\ndivide = 1\njump = 1\nbranch = 1\nloop = 1\nreceive = 1\nsend = 1\nmark = 1\nend = 1\n";
 
 /// Writes the image of the program of word 1 for the target of word 2.
 pub(crate) fn compile<H: Shelf, K: Sink>(
@@ -76,28 +75,29 @@ fn image_bytes<H: Shelf>(
     target: &str,
     shelf: &mut H,
 ) -> Result<Vec<u8>, Status>
-    ensures bytes { IfOk result (λ bytes. (tree : PlainTree)
-        × Compiles (H.told shelf.old program.now) (H.told shelf.old target.now) tree × (bytes.items ≡ image_bytes tree)) }
+    ensures bytes { IfOk result (λ bytes. (tree : PlainTree) × (costs : Costs)
+        × Compiles (H.told shelf.old program.now) (H.told shelf.old target.now) tree costs × (bytes.items ≡ image_bytes tree costs)) }
     ensures loads { OnOk result (AddsLoads (both_loads program.now target.now) (H.loads shelf.old) (H.loads shelf.new)) }
     ensures refusal { IfErr result (Refuses program.now target.now (H.told shelf.old) (H.loads shelf.old) (H.loads shelf.new)) }
 {
     let tree = load_program(alloc, program, shelf)?;
     match load_target(alloc, target, shelf) {
-        Ok(()) => encode_fitting(alloc, &tree),
+        Ok(costs) => encode_fitting(alloc, &tree, &costs),
         Err(status) => Err(status),
     }
 }
 
-/// The bytes of the tree's image, where its cycles fit its period.
-fn encode_fitting(alloc: Global, tree: &PlainTree) -> Result<Vec<u8>, Status>
+/// The bytes of the tree's image, where its frames fit its period.
+fn encode_fitting(alloc: Global, tree: &PlainTree, costs: &Costs) -> Result<Vec<u8>, Status>
     requires plain { IsPlain tree.now }
     requires writable { IsWritable tree.now }
-    ensures bytes { IfOk result (λ bytes. bytes.items ≡ image_bytes tree.now) }
-    ensures fits { OnOk result (body_cycles tree.now.body + 2 ≤ tree.now.period) }
-    ensures refusal { IfErr result (IsLateRefusal tree.now) }
+    requires ranges { CostsInRange costs.now }
+    ensures bytes { IfOk result (λ bytes. bytes.items ≡ image_bytes tree.now costs.now) }
+    ensures fits { OnOk result (frame_ticks costs.now tree.now ≤ tree.now.period) }
+    ensures refusal { IfErr result (IsLateRefusal tree.now costs.now) }
 {
-    refuse_overload(tree)?;
-    let image = image_of(alloc, tree)?;
+    refuse_overload(tree, costs)?;
+    let image = image_of(alloc, tree, costs)?;
     Ok(encode(alloc, &image)?)
 }
 
@@ -132,16 +132,27 @@ fn tree_of(alloc: Global, text: &[u8]) -> Result<PlainTree, Status>
     }
 }
 
-fn load_target<H: Shelf>(alloc: Global, target: &str, shelf: &mut H) -> Result<(), Status>
-    ensures unit { OnOk result (IfSome (H.told shelf.old target.now) (λ bytes. bytes ≡ unit_target)) }
+/// The costs of the target's file.
+fn load_target<H: Shelf>(alloc: Global, target: &str, shelf: &mut H) -> Result<Costs, Status>
+    ensures gives { IfOk result (GivesCosts (H.told shelf.old target.now)) }
     ensures loads { OnOk result (AddsLoads (target_load target.now Done ∷ []) (H.loads shelf.old) (H.loads shelf.new)) }
     ensures refusal { IfErr result (λ status. RefusesTarget target.now (H.told shelf.old) (H.loads shelf.old) (H.loads shelf.new) status) }
 {
-    let text = load(alloc, target, 2, TARGET_LIMIT, shelf)?;
-    if text.as_slice() == UNIT_TARGET {
-        Ok(())
-    } else {
-        Err(Status::Beyond { word: 2 })
+    match load(alloc, target, 2, TARGET_LIMIT, shelf) {
+        Ok(text) => costs_of(alloc, &text),
+        Err(status) => Err(status),
+    }
+}
+
+/// The costs of a target.
+fn costs_of(alloc: Global, text: &[u8]) -> Result<Costs, Status>
+    ensures gives { IfOk result (GivesCosts (Some text.now)) }
+    ensures refusal { IfErr result (IsTargetRefusal (Some text.now)) }
+{
+    match read_target(alloc, text) {
+        Ok(costs) => Ok(costs),
+        Err(TargetFail::NoMemory) => Err(Status::NoMemory),
+        Err(fail) => Err(Status::Target(fail)),
     }
 }
 
@@ -168,12 +179,12 @@ pub(crate) fn load<H: Shelf>(
     }
 }
 
-fn refuse_overload(tree: &PlainTree) -> Result<(), Status>
+fn refuse_overload(tree: &PlainTree, costs: &Costs) -> Result<(), Status>
     requires { IsPlain tree.now }
-    ensures fits { OnOk result (body_cycles tree.now.body + 2 ≤ tree.now.period) }
-    ensures overload { IfErr result (IsOverload tree.now) }
+    ensures fits { OnOk result (frame_ticks costs.now tree.now ≤ tree.now.period) }
+    ensures overload { IfErr result (IsOverload tree.now costs.now) }
 {
-    let total = total_cycles(tree.body.as_slice());
+    let total = frame_ticks(costs, tree);
     if total > tree.period {
         return Err(Status::Overload {
             demand: total,

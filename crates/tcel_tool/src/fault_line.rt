@@ -1,39 +1,44 @@
 ghost use Rattle.std.specs.Prelude.{◌≡◌, [], ◌∷◌, map, string_bytes};
 ghost use Rattle.std.specs.Fmt.{decimal};
 ghost use Rattle.tcel_io.specs.InTurn.{ArePut, seen};
-ghost use Rattle.tcel_tool.specs.FaultLine.{fault_pieces, flaw_pieces, flaw_text, image_pieces, limit_pieces, script_pieces, word_at};
+ghost use Rattle.tcel_tool.specs.FaultLine.{fault_pieces, flaw_pieces, flaw_text, image_pieces, limit_pieces, script_pieces, target_pieces, word_at};
 
 use crate::status::{CountKind, LimitFault, Status};
 use itoa::Buffer;
 use tcel_image::{Flaw, FlawKind, ImageFail};
 use tcel_io::Sink;
 use tcel_script::ScriptFail;
+use tcel_target::TargetFail;
 
 /// Puts the fault line of the status (docs/commands.md), in pieces: the texts between words and numbers, and these. After a fault nothing more is put.
-pub(crate) fn put_fault_line<K: Sink>(words: &[String], status: Status, err: &mut K)
-    ensures { ArePut (fault_pieces (map string_bytes words.now) status) (seen (K.taken err.old) (K.faults err.old) (K.puts err.old)) (seen (K.taken err.new) (K.faults err.new) (K.puts err.new)) }
+pub(crate) fn put_fault_line<K: Sink>(words: &[String], status: &Status, err: &mut K)
+    ensures { ArePut (fault_pieces (map string_bytes words.now) status.now) (seen (K.taken err.old) (K.faults err.old) (K.puts err.old)) (seen (K.taken err.new) (K.faults err.new) (K.puts err.new)) }
 {
     match status {
         Status::Ok => put_all(&[], err),
         Status::Overload { demand, hyper } => put_all(
             &[
                 b"rejected: overload demand ",
-                Buffer::new().format(demand).as_bytes(),
+                Buffer::new().format(*demand).as_bytes(),
                 b" hyperperiod ",
-                Buffer::new().format(hyper).as_bytes(),
+                Buffer::new().format(*hyper).as_bytes(),
                 b"\n",
             ],
             err,
         ),
-        Status::Limit(fault) => put_limit(words, fault, err),
+        Status::Limit(fault) => put_limit(words, *fault, err),
         Status::Words => put_all(&[b"words: no command has this form\n"], err),
-        Status::ReadFault { word } => put_all(&[b"read fault: ", word_at(words, word), b"\n"], err),
+        Status::ReadFault { word } => put_all(
+            &[b"read fault: ", word_at(words, *word), b"\n"],
+            err,
+        ),
         Status::WriteFault => put_all(&[b"write fault\n"], err),
         Status::NoMemory => put_all(&[b"no memory\n"], err),
-        Status::Image(fail) => put_image_fail(fail, err),
-        Status::Flaw(flaw) => put_flaw(flaw, err),
-        Status::Script(fail) => put_script_fail(fail, err),
-        Status::Beyond { word } => put_all(&[b"beyond: ", word_at(words, word), b"\n"], err),
+        Status::Target(fail) => put_target_fail(fail, err),
+        Status::Image(fail) => put_image_fail(*fail, err),
+        Status::Flaw(flaw) => put_flaw(*flaw, err),
+        Status::Script(fail) => put_script_fail(*fail, err),
+        Status::Beyond { word } => put_all(&[b"beyond: ", word_at(words, *word), b"\n"], err),
     }
 }
 
@@ -66,6 +71,24 @@ fn put_number<K: Sink>(before: &[u8], number: u64, after: &[u8], err: &mut K)
         &[before, Buffer::new().format(number).as_bytes(), after],
         err,
     )
+}
+
+fn put_target_fail<K: Sink>(fail: &TargetFail, err: &mut K)
+    ensures { ArePut (target_pieces fail.now) (seen (K.taken err.old) (K.faults err.old) (K.puts err.old)) (seen (K.taken err.new) (K.faults err.new) (K.puts err.new)) }
+{
+    match fail {
+        TargetFail::NotToml => put_all(&[b"target: not toml\n"], err),
+        TargetFail::Strange { key } => put_all(&[b"target: strange ", key.bytes(), b"\n"], err),
+        TargetFail::Missing { key } => put_all(
+            &[b"target: missing ", key.text().as_bytes(), b"\n"],
+            err,
+        ),
+        TargetFail::Range { key } => put_all(
+            &[b"target: range ", key.text().as_bytes(), b"\n"],
+            err,
+        ),
+        TargetFail::NoMemory => put_all(&[b"no memory\n"], err),
+    }
 }
 
 fn put_image_fail<K: Sink>(fail: ImageFail, err: &mut K)

@@ -1,7 +1,7 @@
 ghost use Rattle.std.specs.Prelude.{◌≡◌, ◌++◌, ◌≤◌, ◌<◌, length, map, All, Contains, OnOk, IfOk};
 ghost use Rattle.tcel_core.specs.Cells.{place, all_words};
 ghost use Rattle.tcel_core.specs.declared.var.Keep.{Keep};
-ghost use Rattle.tcel_image.specs.Examples.{unit_costs};
+ghost use Rattle.tcel_target.specs.Costs.{CostsInRange};
 ghost use Rattle.tcel_image.specs.Spelling.{InRange};
 ghost use Rattle.tcel_tool.specs.Code.{at, expr_code, act_code, whole_code};
 ghost use Rattle.tcel_tool.specs.Layout.{image_of, image_task, states_of, state_of};
@@ -11,20 +11,22 @@ use crate::names::{count_of, names_of, position_of, variable_position};
 use crate::plain_tree::{Operand, PlainDecl, PlainExpr, PlainKind, PlainStmt, PlainTree};
 use sqlite_items::Items;
 use std::alloc::Global;
-use tcel_image::{Costs, Image, ImageState, ImageTask, Instr, Line, StateKind};
+use tcel_image::{Image, ImageState, ImageTask, Instr, Line, StateKind};
 use tcel_num::{Name, NoMemory};
+use tcel_target::Costs;
 
-/// The image of the task, for a processor whose instructions take 1 cycle each (docs/machine.md).
-pub(crate) fn image_of(alloc: Global, tree: &PlainTree) -> Result<Image, NoMemory>
+/// The image of the task, for a processor with these costs (docs/machine.md).
+pub(crate) fn image_of(alloc: Global, tree: &PlainTree, costs: &Costs) -> Result<Image, NoMemory>
     requires plain { IsPlain tree.now }
     requires writable { IsWritable tree.now }
-    ensures exact { IfOk result (λ image. image ≡ image_of (set_of tree.now) unit_costs) }
+    requires ranges { CostsInRange costs.now }
+    ensures exact { IfOk result (λ image. image ≡ image_of (set_of tree.now) costs.now) }
     ensures spelled { IfOk result InRange }
 {
     let mut tasks = Items::new(alloc);
     tasks.push(image_task(alloc, tree)?)?;
     Ok(Image {
-        costs: Costs::unit(),
+        costs: *costs,
         tasks,
     })
 }

@@ -42,7 +42,7 @@ fn main(rt: HostRuntime) -> ExitCode {
             &mut err,
         ),
         Err(status) => {
-            fault_line::put_fault_line(&[], status, &mut err);
+            fault_line::put_fault_line(&[], &status, &mut err);
             status
         }
     };

@@ -5,9 +5,10 @@ ghost use Rattle.tcel_tool.specs.declared.status.Status.TheVariants.{NoMemory as
 use tcel_image::{Flaw, ImageFail};
 use tcel_num::NoMemory;
 use tcel_script::ScriptFail;
+use tcel_target::TargetFail;
 
 /// How a call of `tcel` ended (docs/commands.md). `word` is the number of a word of the command line, where the command itself is 0.
-#[derive(Clone, Copy, Debug, PartialEq, Eq)]
+#[derive(Debug, Drop, PartialEq, Eq)]
 pub enum Status {
     Ok,
     /// The frames that are released in `hyper` ticks ask for `demand` cycles, which is more.
@@ -20,13 +21,15 @@ pub enum Status {
     /// The output couldn't be written.
     WriteFault,
     NoMemory,
+    /// The target's bytes are no target. Want of memory is `NoMemory`.
+    Target(TargetFail),
     /// The bytes of the image file spell no image. Want of memory is `NoMemory`.
     Image(ImageFail),
     /// The image isn't valid.
     Flaw(Flaw),
     /// The script has a faulty line. Want of memory is `NoMemory`.
     Script(ScriptFail),
-    /// The file of this word has a form that isn't built yet.
+    /// The file of this word is a program of a form that isn't built yet.
     Beyond { word: usize },
 }
 
@@ -58,6 +61,7 @@ impl Status {
             Status::ReadFault { .. } => 5,
             Status::WriteFault => 6,
             Status::NoMemory => 7,
+            Status::Target(_) => 8,
             Status::Image(_) | Status::Flaw(_) => 9,
             Status::Script(_) => 10,
             Status::Beyond { .. } => 20,

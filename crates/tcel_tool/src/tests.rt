@@ -4,6 +4,7 @@ use std::alloc::{AllocError, Global};
 use std::process::Abort;
 use std::test::Fail;
 use tcel_io::{MemFile, MemShelf, MemSink, PutFail};
+use tcel_target::TargetFail;
 
 const ECHO: &[u8] =
     b"task t priority 1 {\n  input s;\n  output o;\n  state int n;\n  local int x;\n  every 10 {\n    receive x from s;\n    send x to o;\n    n := n + 1;\n  }\n}\n";
@@ -183,25 +184,204 @@ fn bounds_the_cycles_by_the_period(rt: HostRuntime) -> Result<(), Fail> {
 }
 
 #[test]
-fn refuses_a_program_or_target_with_other_bytes(rt: HostRuntime) -> Result<(), Fail> {
-    let alloc = rt.alloc();
-    let mut longer = Vec::from_slice(alloc, ECHO)?;
+fn refuses_a_program_with_other_bytes(rt: HostRuntime) -> Result<(), Fail> {
+    let mut longer = Vec::from_slice(rt.alloc(), ECHO)?;
     longer.push(b'\n').map_err(|_| "memory")?;
-    let (first, second) = (Status::Beyond { word: 1 }, Status::Beyond { word: 2 });
     compare(
         &rt,
         (&longer, UNIT),
         NONE,
-        (first, 20),
+        (Status::Beyond { word: 1 }, 20),
         (b"", b"beyond: p\n"),
-    )?;
+    )
+}
+
+/// The lines of `UNIT`.
+const LINES_OF_UNIT: [&str; 15] = [
+    "const = 1\n",
+    "load = 1\n",
+    "store = 1\n",
+    "load_at = 1\n",
+    "store_at = 1\n",
+    "arith = 1\n",
+    "multiply = 1\n",
+    "divide = 1\n",
+    "jump = 1\n",
+    "branch = 1\n",
+    "loop = 1\n",
+    "receive = 1\n",
+    "send = 1\n",
+    "mark = 1\n",
+    "end = 1\n",
+];
+
+/// The number of the place behind these lines.
+const BEHIND: usize = 15;
+
+/// The target of unit costs, with another text in place of the line of this number.
+fn target(alloc: Global, place: usize, by: &str) -> Result<String, AllocError> {
+    let mut text = String::new(alloc);
+    for (number, line) in LINES_OF_UNIT.iter().enumerate() {
+        if number == place {
+            text.push_str(by)?;
+        } else {
+            text.push_str(*line)?;
+        }
+    }
+    if place == BEHIND {
+        text.push_str(by)?;
+    }
+    Ok(text)
+}
+
+#[test]
+fn refuses_targets(rt: HostRuntime) -> Result<(), Fail> {
+    let rows = [
+        (14, "", "target: missing end\n"),
+        (12, "send = 0\n", "target: range send\n"),
+        (BEHIND, "fast = 1\n", "target: strange fast\n"),
+        (0, "const =\n", "target: not toml\n"),
+        (BEHIND, "dispatch = 1001\n", "target: range dispatch\n"),
+        (BEHIND, "end = 1\n", "target: not toml\n"),
+        (13, "mark = 1.0\n", "target: range mark\n"),
+        (13, "mark = '1'\n", "target: range mark\n"),
+        (BEHIND, "[end]\n", "target: not toml\n"),
+        (BEHIND, "[more]\nx = 1\n", "target: strange more\n"),
+        (1, "load.at = 1\n", "target: range load\n"),
+        (BEHIND, "zeta = 1\nB = 1\nb = 1\n", "target: strange B\n"),
+    ];
+    for (place, by, err) in rows {
+        let text = target(rt.alloc(), place, by)?;
+        let left = run(rt.alloc(), &COMPILE, (ECHO, text.as_bytes()), NONE)?;
+        assert_eq!(rt; left.status.code(), 8);
+        assert_eq!(rt; left.out.bytes(), b"".as_slice());
+        assert_eq!(rt; left.err.bytes(), err.as_bytes());
+    }
+    Ok(())
+}
+
+#[test]
+fn refuses_a_target_behind_its_program(rt: HostRuntime) -> Result<(), Fail> {
+    let left = run(rt.alloc(), &COMPILE, (b"", b"const ="), NONE)?;
+    assert_eq!(rt; left.status, Status::Beyond { word: 1 });
+    // A byte that is no UTF-8 is in no document.
     compare(
         &rt,
-        (ECHO, b"const = 1\n"),
+        (ECHO, b"# \xff\n"),
         NONE,
-        (second, 20),
-        (b"", b"beyond: t\n"),
+        (Status::Target(TargetFail::NotToml), 8),
+        (b"", b"target: not toml\n"),
     )
+}
+
+/// `ECHO` with a period, compiled for the target of unit costs with another text in place of a line.
+fn compiled(alloc: Global, period: &str, place: usize, by: &str) -> Result<Left, Fail> {
+    let program = echo_every(alloc, period)?;
+    let text = target(alloc, place, by)?;
+    run(alloc, &COMPILE, (program.as_bytes(), text.as_bytes()), NONE)
+}
+
+#[test]
+fn compiles_for_the_same_costs(rt: HostRuntime) -> Result<(), Fail> {
+    let rows = [
+        (BEHIND, "dispatch = 0\n"),
+        (BEHIND, "# end"),
+        (0, "\r\n# costs\r\n\r\nconst = 1 # one\r\n"),
+    ];
+    let image = echo_image(rt.alloc())?;
+    for (place, by) in rows {
+        let left = compiled(rt.alloc(), "10", place, by)?;
+        assert_eq!(rt; left.status, Status::Ok);
+        assert_eq!(rt; left.out.bytes(), image.as_slice());
+    }
+    Ok(())
+}
+
+#[test]
+fn bounds_the_cycles_of_other_costs(rt: HostRuntime) -> Result<(), Fail> {
+    let rows = [
+        (
+            1,
+            "load = 2\n",
+            "10",
+            "rejected: overload demand 11 hyperperiod 10\n",
+        ),
+        (1, "load = 2\n", "11", ""),
+        (
+            BEHIND,
+            "dispatch = 3\n",
+            "10",
+            "rejected: overload demand 12 hyperperiod 10\n",
+        ),
+        (BEHIND, "dispatch = 3\n", "12", ""),
+        (
+            12,
+            "send = 1000\ndispatch = 1000\n",
+            "2007",
+            "rejected: overload demand 2008 hyperperiod 2007\n",
+        ),
+        (12, "send = 1000\ndispatch = 1000\n", "2008", ""),
+    ];
+    for (place, by, period, err) in rows {
+        let left = compiled(rt.alloc(), period, place, by)?;
+        assert_eq!(rt; left.err.bytes(), err.as_bytes());
+        assert_eq!(rt; left.status.code() == 0, err.is_empty());
+    }
+    Ok(())
+}
+
+#[test]
+fn runs_what_other_targets_cost(rt: HostRuntime) -> Result<(), Fail> {
+    let rows = [
+        (
+            1,
+            "load = 2\n",
+            "11",
+            "1 t 0 receive s 5\n4 t 0 send o 5\n10 t 0 first\n11 t 0 end n=1\n12 t 1 receive s 6\n",
+        ),
+        (
+            BEHIND,
+            "dispatch = 3\n",
+            "12",
+            "4 t 0 receive s 5\n6 t 0 send o 5\n11 t 0 first\n12 t 0 end n=1\n",
+        ),
+    ];
+    for (place, by, period, lines) in rows {
+        let image = compiled(rt.alloc(), period, place, by)?;
+        let left = run(
+            rt.alloc(),
+            &["run", "p", "t", "12"],
+            (image.out.bytes(), SCRIPT),
+            NONE,
+        )?;
+        assert_eq!(rt; left.status, Status::Ok);
+        assert_eq!(rt; left.out.bytes(), lines.as_bytes());
+    }
+    Ok(())
+}
+
+/// Runs an image for 12 ticks, which has a bad field at 72.
+fn refuse_dispatch(rt: &(impl Abort + AllocGlobal), image: &[u8]) -> Result<(), Fail> {
+    let left = run(rt.alloc(), &["run", "p", "t", "12"], (image, SCRIPT), NONE)?;
+    assert_eq!(rt; left.status.code(), 9);
+    assert_eq!(rt; left.err.bytes(), b"image: bad field at 72\n".as_slice());
+    Ok(())
+}
+
+#[test]
+fn spells_a_dispatch_cost(rt: HostRuntime) -> Result<(), Fail> {
+    let left = compiled(rt.alloc(), "12", BEHIND, "dispatch = 3\n")?;
+    let mut image = Vec::from_slice(rt.alloc(), left.out.bytes())?;
+    assert_eq!(rt; image.len(), 260);
+    let known = [(4, 2), (72, 3), (73, 0), (74, 0), (75, 0), (78, 12)];
+    for (at, byte) in known {
+        assert_eq!(rt; image.get(at).copied(), Some(byte));
+    }
+    *image.get_mut(72).ok_or("place")? = 0;
+    refuse_dispatch(&rt, &image)?;
+    let mut second = echo_image(rt.alloc())?;
+    *second.get_mut(4).ok_or("place")? = 2;
+    refuse_dispatch(&rt, &second)
 }
 
 #[test]

@@ -5,8 +5,8 @@ ghost use Rattle.tcel_io.specs.InTurn.{AreTaken, AreCutOff, ArePut, seen};
 ghost use Rattle.tcel_io.specs.Load.{AddsLoads, Load};
 ghost use Rattle.tcel_io.specs.Reach.{ReachesWithin};
 ghost use Rattle.tcel_io.specs.Taken.{Takes, TakesPrefix};
-ghost use Rattle.tcel_image.specs.Examples.{unit_costs};
-ghost use Rattle.tcel_tool.specs.Answer.{Answers, Accepts, AcceptsSome, AreLoads, IsCompile, SecondAfter, image_bytes, writes};
+ghost use Rattle.tcel_target.specs.declared.costs.Costs.{Costs};
+ghost use Rattle.tcel_tool.specs.Answer.{Answers, Accepts, AcceptsSome, AreLoads, GivesCosts, IsCompile, SecondAfter, image_bytes, writes};
 ghost use Rattle.tcel_tool.specs.FaultLine.{fault_line, fault_pieces, word_at};
 ghost use Rattle.tcel_tool.specs.Headline.{KeepsItsPromise};
 ghost use Rattle.tcel_tool.specs.PlainTree.{set_of};
@@ -54,8 +54,9 @@ pub fn tcel<H: Shelf, K: Sink>(
         × AreCutOff lines (seen (K.taken out.old) (K.faults out.old) (K.puts out.old)) (seen (K.taken out.new) (K.faults out.new) (K.puts out.new))) result }
 
     // After Ok of `compile`, out took the image of the program's set, which has a spelling and is valid, and every run of it meets the set.
-    ensures headline { IsCompile (map string_bytes words.now) → result ≡ Status.Ok → (tree : PlainTree) × Accepts (H.told shelf.old (word_at (map string_bytes words.now) 1)) tree
-        × Takes (image_bytes tree) (K.taken out.old) (K.taken out.new) × KeepsItsPromise (set_of tree) unit_costs }
+    ensures headline { IsCompile (map string_bytes words.now) → result ≡ Status.Ok → (tree : PlainTree) × (costs : Costs)
+        × Accepts (H.told shelf.old (word_at (map string_bytes words.now) 1)) tree × GivesCosts (H.told shelf.old (word_at (map string_bytes words.now) 2)) costs
+        × Takes (image_bytes tree costs) (K.taken out.old) (K.taken out.new) × KeepsItsPromise (set_of tree) costs }
 
     // What out took, and how often.
     ensures untouched { IsTrue (writes result) ⊎ (out.new ≡ out.old) }
@@ -70,7 +71,7 @@ pub fn tcel<H: Shelf, K: Sink>(
         (seen (K.taken err.old) (K.faults err.old) (K.puts err.old)) (seen (K.taken err.new) (K.faults err.new) (K.puts err.new)) }
 {
     let status = answer(alloc, words, shelf, out);
-    put_fault_line(words, status, err);
+    put_fault_line(words, &status, err);
     status
 }
 

@@ -2,10 +2,11 @@ use super::*;
 use sqlite_items::Items;
 use std::alloc::Global;
 use std::test::Fail;
-use tcel_image::{Costs, Image, ImageState, ImageTask, Instr, Line, StateKind, decode, in_range};
+use tcel_image::{Image, ImageState, ImageTask, Instr, Line, StateKind, decode, in_range};
 use tcel_machine::{Entry, Machine, What};
 use tcel_num::{Name, Op};
 use tcel_script::read_script;
+use tcel_target::Costs;
 use tcel_verify::verify;
 
 /// Three tasks, and what their states begin with: `t` with an input `s`, an output `o` and n = 1; `u`

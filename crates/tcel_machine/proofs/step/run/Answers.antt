@@ -16,18 +16,18 @@ task_is c =
 run_was : (c : After-index-tasks-number) → slice_get c.args.tasks.now c.args.number ≡ Some (get_or c.args.tasks.now c.args.number c.index-tasks-number.result)
 run_was c = slice_get-get_or c.args.tasks.now c.args.number c.index-tasks-number.result c.requires.within
 
-pub cycle-requires-clause-range : goal.cycle-requires-clause-range
-cycle-requires-clause-range c = (c.requires.can.sound c.args.number c.index-image_tasks-number.result (task_is c)).0
+pub own_tick-requires-clause-range : goal.own_tick-requires-clause-range
+own_tick-requires-clause-range c = (c.requires.can.sound c.args.number c.index-image_tasks-number.result (task_is c)).0
 
-pub cycle-requires-clause-valid : goal.cycle-requires-clause-valid
-cycle-requires-clause-valid c = (c.requires.can.sound c.args.number c.index-image_tasks-number.result (task_is c)).1
+pub own_tick-requires-clause-valid : goal.own_tick-requires-clause-valid
+own_tick-requires-clause-valid c = (c.requires.can.sound c.args.number c.index-image_tasks-number.result (task_is c)).1
 
-pub cycle-requires-clause-running : goal.cycle-requires-clause-running
-cycle-requires-clause-running c =
+pub own_tick-requires-clause-running : goal.own_tick-requires-clause-running
+own_tick-requires-clause-running c =
     c.requires.can.running.each c.args.number c.index-image_tasks-number.result (get_or c.args.tasks.now c.args.number c.index-tasks-number.result) (task_is c) (run_was c)
 
-pub cycle-requires-clause-release : goal.cycle-requires-clause-release
-cycle-requires-clause-release c =
+pub own_tick-requires-clause-release : goal.own_tick-requires-clause-release
+own_tick-requires-clause-release c =
     let run = get_or c.args.tasks.now c.args.number c.index-tasks-number.result in
     let valid = (c.requires.can.sound c.args.number c.index-image_tasks-number.result (task_is c)).1 in
     release_of c.index-image_tasks-number.result c.args.now (running_of run) valid.some
@@ -37,12 +37,12 @@ pub returns-in-None : goal.returns-in-None
 returns-in-None c =
     let at = goal.at.returns-in-None c in
     ran c.args.image.now c.args.script.now c.args.now c.args.tasks.now c.args.number c.index-image_tasks-number.result
-    (get_or c.args.tasks.now c.args.number c.index-tasks-number.result) c.cycle.new.task c.requires.can c.requires.first c.requires.within
+    (get_or c.args.tasks.now c.args.number c.index-tasks-number.result) c.own_tick.new.task c.requires.can c.requires.first c.requires.within
     (task_is at.After-index-tasks-number) (run_was at.After-index-tasks-number) None c.in-None.ensures.running c.in-None.ensures.task c.in-None.ensures.shown
 
 pub returns-in-Some : goal.returns-in-Some
 returns-in-Some c =
     let at = goal.at.returns-in-Some c in
     ran c.args.image.now c.args.script.now c.args.now c.args.tasks.now c.args.number c.index-image_tasks-number.result
-    (get_or c.args.tasks.now c.args.number c.index-tasks-number.result) c.cycle.new.task c.requires.can c.requires.first c.requires.within
+    (get_or c.args.tasks.now c.args.number c.index-tasks-number.result) c.own_tick.new.task c.requires.can c.requires.first c.requires.within
     (task_is at.After-index-tasks-number) (run_was at.After-index-tasks-number) (Some c.in-Some.what) c.in-Some.ensures.running c.in-Some.ensures.task c.in-Some.ensures.shown

@@ -1,0 +1,5 @@
+pub mod Costs
+pub mod Target
+pub mod Reading
+pub mod Laws
+pub mod Examples
