@@ -87,7 +87,7 @@ pub record HasPassed (plans : List Plan) (Passed : Place → Type 0) (place : Pl
 pub never : (plans : List Plan) (Passed : Place → Type 0) → ((place : Place) → IsLate plans place → HasPassed plans Passed place) → IsFirstOf plans Passed None → IsNeverLate plans
 never plans Passed all h place late = let low = all place late in h (record { task = place.task; frame = low.frame; point = place.point }) low.passed low.late
 
-earlier_frame : (place other : Place) (frame : ℕ) → frame ≤ place.frame → Precedes place other → Precedes (record { task = place.task; frame = frame; point = place.point }) other
+pub earlier_frame : (place other : Place) (frame : ℕ) → frame ≤ place.frame → Precedes place other → Precedes (record { task = place.task; frame = frame; point = place.point }) other
 earlier_frame place other frame h (inl g) = inl g
 earlier_frame place other frame h (inr (inl g)) = let same = g.0 in let less = g.1 in inr (inl (omega arith, omega arith))
 earlier_frame place other frame h (inr (inr g)) =

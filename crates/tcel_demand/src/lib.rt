@@ -10,7 +10,7 @@ mod total;
 mod worst;
 
 pub use demand::Demand;
-pub use examples::lateness_example;
+pub use examples::{lateness_example, schedule_example};
 pub use late::late_plain;
 pub use plan::{Late, Point, PointName, TaskPlan, Worst};
 pub use total::demand_over;

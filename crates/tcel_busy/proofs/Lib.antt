@@ -1,0 +1,11 @@
+pub mod AllWorst
+pub mod BusyPeriod
+pub mod Gaps
+pub mod Laws
+pub mod Rooms
+pub mod Rows
+pub mod StretchFacts
+pub mod StretchTests
+pub mod Tasks
+pub mod WalkFacts
+pub mod Walks
