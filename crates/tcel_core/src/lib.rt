@@ -11,6 +11,8 @@ mod item_set;
 mod laws;
 mod parts;
 mod set;
+mod slicing_examples;
+mod soundness;
 #[cfg(test)]
 mod tests;
 mod var;
@@ -25,4 +27,6 @@ pub use item_set::ItemSet;
 pub use laws::{meaning_laws, plain_laws, trace_laws};
 pub use parts::Parts;
 pub use set::{CoreTask, Set};
+pub use slicing_examples::{fetched_example, saved_example, split_example};
+pub use soundness::sound_examples;
 pub use var::{Keep, Var, VarKind};

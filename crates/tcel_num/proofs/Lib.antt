@@ -1,9 +1,4 @@
+pub mod CommonMultiples
 pub mod Padding
 pub mod Quotients
-pub mod Responses
-pub mod Served
-pub mod ServedAlone
-pub mod ServedAtLast
-pub mod ReachedInTime
-pub mod Hyperperiods
 pub mod Words

@@ -1,4 +1,4 @@
-use crate::{Name, add, div, may_follow, may_start, mul, neg, rem, sub};
+use crate::{Name, add, ceil_div, div, lcm_within, may_follow, may_start, mul, neg, rem, sub};
 use std::test::Fail;
 
 #[test]
@@ -58,4 +58,24 @@ fn digits_follow_in_names_and_start_none(rt: HostRuntime) {
         [b'z', b'A', b'_', b'9', b'-'].map(may_follow),
         [true, true, true, true, false]
     );
+}
+
+#[test]
+fn quotients_are_rounded_up(rt: HostRuntime) {
+    assert_eq!(rt; [ceil_div(0, 3), ceil_div(6, 3), ceil_div(7, 3)], [0, 2, 3]);
+}
+
+#[test]
+fn least_common_multiples_are_within_a_limit(rt: HostRuntime) {
+    assert_eq!(rt; lcm_within(&[4, 6], 12), Some(12));
+    assert_eq!(rt; lcm_within(&[4, 6], 11), None);
+    assert_eq!(rt;
+        lcm_within(&[499_999, 500_000], 1_000_000_000_000),
+        Some(249_999_500_000)
+    );
+    assert_eq!(rt;
+        lcm_within(&[1_000_000_000, 999_999_999], 1_000_000_000_000),
+        None
+    );
+    assert_eq!(rt; [lcm_within(&[], 1), lcm_within(&[], 0)], [Some(1), None]);
 }

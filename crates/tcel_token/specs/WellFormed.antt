@@ -1,13 +1,11 @@
 -- Tokens as a text gives them: numbers are 0 or more, and places rise.
-use Rattle.std.specs.Prelude.{◌≡◌, ◌<◌, ◌⊎◌, pos, ◌≤ℤ◌, List, [], ◌∷◌, ◌++◌, map, All, AllPairs}
+use Rattle.std.specs.Prelude.{◌^◌, pos, ◌≤ℤ◌, ◌<ℤ◌, List, [], ◌∷◌, ◌++◌, map, All, AllPairs}
 use Rattle.tcel_num.specs.declared.at.At.{At}
+use Rattle.tcel_num.specs.Name.{IsName}
 use Rattle.tcel_token.specs.declared.token.TokenKind.{TokenKind}
 use Rattle.tcel_token.specs.declared.token.TokenKind.TheVariants.{Word, Name, Number, Sign}
+use Rattle.tcel_token.specs.Places.{Precedes}
 use Rattle.tcel_token.specs.Terminal.{Terminal}
-
--- a place stands before another: on an earlier line, or on the same line in an earlier column
-abbrev pub Precedes : At → At → Type 0
-Precedes a b = (a.line < b.line) ⊎ ((a.line ≡ b.line) × (a.column < b.column))
 
 -- a number is 0 or more
 abbrev pub IsNatural : TokenKind → Type 0
@@ -24,3 +22,10 @@ places ts end = map (λ (t : Terminal). t.at) ts ++ end ∷ []
 pub record AreWellFormed (ts : List Terminal) (end : At) : Type 0 where
   pub numbers : All (λ (t : Terminal). IsNatural t.kind) ts
   pub rising : AllPairs Precedes (places ts end)
+
+-- a text can spell the token: a name is one, and a number is 0 to 9223372036854775807
+abbrev pub IsWritable : TokenKind → Type 0
+IsWritable (Number n) = (pos 0 ≤ℤ n) × (n <ℤ pos (2 ^ 63))
+IsWritable (Name name) = IsName name
+IsWritable (Word w) = Unit {0}
+IsWritable (Sign s) = Unit {0}

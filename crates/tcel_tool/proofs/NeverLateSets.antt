@@ -7,8 +7,8 @@ use Rattle.tcel_num.specs.Hyperperiod.{IsHyperperiod, demand}
 use Rattle.tcel_num.specs.Lateness.{IsNeverLate}
 use Rattle.tcel_num.specs.Plan.{Plan, Point}
 use Rattle.tcel_num.specs.Schedule.{served}
-use Rattle.tcel_num.proofs.ReachedInTime.{reached_in_time}
-use Rattle.tcel_num.proofs.ServedAtLast.{served_at_last}
+use Rattle.tcel_demand.proofs.ReachedInTime.{reached_in_time}
+use Rattle.tcel_demand.proofs.ServedAtLast.{served_at_last}
 use Rattle.tcel_core.specs.Language.{Task}
 use Rattle.tcel_core.specs.Scope.{TaskFits}
 use Rattle.tcel_image.specs.declared.costs.Costs.{Costs}

@@ -32,7 +32,7 @@ use Rattle.tcel_tool.specs.declared.plain_tree.PlainExpr.TheVariants as exprs
 use Rattle.tcel_tool.specs.declared.plain_tree.Operand.{Operand}
 use Rattle.tcel_tool.specs.declared.plain_tree.Operand.TheVariants as operands
 use Rattle.std.specs.List.{AllByRecursion, AllZip}
-use Rattle.tcel_num.proofs.ServedAlone.{served_whole}
+use Rattle.tcel_demand.proofs.ServedAlone.{served_whole}
 use Rattle.tcel_tool.proofs.Places.{below}
 use Rattle.tcel_tool.proofs.BoundEvents.{EachPoint, no_points, untimed_loops}
 use Rattle.tcel_tool.proofs.WholeFrames.{Reaches}

@@ -2,7 +2,7 @@
 use Rattle.std.proofs.Common.{◌≡◌, ◌≢◌, ℕ, ◌+◌, ◌<◌, ◌≤◌, List, [], ◌∷◌, ◌++◌, Option, Some, None, refl, sym, ap, ◌∙◌, subst, inl, inr, length, append_assoc, append-nil, arith, ◌⊎◌}
 use Rattle.std.specs.Prelude.{IfSome}
 use Rattle.tcel_num.specs.Plan.{Plan}
-use Rattle.tcel_num.proofs.Hyperperiods.{own_hyperperiod, own_demand}
+use Rattle.tcel_demand.proofs.Hyperperiods.{own_hyperperiod, own_demand}
 use Rattle.tcel_tool.specs.PlainTree.{IsPlain}
 use Rattle.tcel_tool.specs.StraightPlan.{body_cycles, plan_of}
 use Rattle.tcel_tool.proofs.StraightPlans.{plan_is}

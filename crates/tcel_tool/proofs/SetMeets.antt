@@ -6,7 +6,7 @@ use Rattle.std.proofs.lemmas.Option.{same_Some, none-some}
 use Rattle.tcel_num.specs.Entry.{Entry}
 use Rattle.tcel_num.specs.Plan.{Plan}
 use Rattle.tcel_num.specs.Schedule.{serve_highest, served_counts, served}
-use Rattle.tcel_num.proofs.Served.{served_mono, length-served}
+use Rattle.tcel_demand.proofs.Served.{served_mono, length-served}
 use Rattle.tcel_core.specs.Meets.{Shows, Keeps, entries_of}
 use Rattle.tcel_core.specs.Promises.{Behavior, promises}
 use Rattle.tcel_image.specs.declared.costs.Costs.{Costs}

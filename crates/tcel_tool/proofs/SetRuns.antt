@@ -8,7 +8,7 @@ use Rattle.std.proofs.lemmas.Option.{same_Some, none-some}
 use Rattle.tcel_num.specs.Entry.{Entry, What}
 use Rattle.tcel_num.specs.Plan.{Plan}
 use Rattle.tcel_num.specs.Schedule.{released, is_pending, serve_highest, served}
-use Rattle.tcel_num.proofs.Served.{served_mono}
+use Rattle.tcel_demand.proofs.Served.{served_mono}
 use Rattle.tcel_core.specs.Meets.{entries_of}
 use Rattle.tcel_core.specs.Promises.{Behavior}
 use Rattle.tcel_image.specs.declared.costs.Costs.{Costs}

@@ -5,9 +5,9 @@ use Rattle.std.proofs.lemmas.List.Elements.{All-nil, All-cons}
 use Rattle.tcel_num.specs.Lateness.{IsLate, IsNeverLate, IsResponse}
 use Rattle.tcel_num.specs.Plan.{Plan, Point, frame, before, within}
 use Rattle.tcel_num.specs.Schedule.{served_counts}
-use Rattle.tcel_num.proofs.Hyperperiods.{own_hyperperiod, own_demand}
-use Rattle.tcel_num.proofs.Responses.{always_within, never_late}
-use Rattle.tcel_num.proofs.Served.{AreWhole}
+use Rattle.tcel_demand.proofs.Hyperperiods.{own_hyperperiod, own_demand}
+use Rattle.tcel_demand.proofs.Responses.{always_within, never_late}
+use Rattle.tcel_demand.proofs.Served.{AreWhole}
 use Rattle.tcel_core.specs.Scope.{TaskFits}
 use Rattle.tcel_image.specs.Examples.{unit_costs}
 use Rattle.tcel_tool.specs.Examples.{passing_body, windowed_task, windowed_plan}

@@ -6,7 +6,7 @@ use Rattle.std.proofs.lemmas.Bool.{and_parts, leb-true, leb-false, cases_lt, cas
 use Rattle.tcel_num.specs.Plan.{Plan, Point}
 use Rattle.tcel_num.specs.Schedule.{served_counts, served}
 use Rattle.tcel_num.specs.Lateness.{Place, IsResponse, IsLate}
-use Rattle.tcel_num.proofs.Served.{served_mono, served_again, AreWhole, whole_at}
+use Rattle.tcel_demand.proofs.Served.{served_mono, served_again, AreWhole, whole_at}
 
 -- the cycles of a point in a frame are served so many ticks after the release
 abbrev pub is_within : List Plan → ℕ → Plan → Point → ℕ → ℕ → Bool

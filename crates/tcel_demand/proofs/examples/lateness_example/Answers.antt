@@ -1,10 +1,10 @@
 use Rattle.std.proofs.Common.{◌≡◌, ℕ, zero, suc, ◌<◌, ◌≤◌, true, false, refl, arith, lit<}
 use Rattle.tcel_num.specs.Schedule.{served_counts}
 use Rattle.tcel_num.specs.Lateness.{IsResponse, IsLate, Precedes}
-use Rattle.tcel_num.specs.Examples.{two_plans, quick_plan, slow_plan, end_within}
-use Rattle.tcel_num.proofs.Served.{AreWhole}
-use Rattle.tcel_num.proofs.Responses.{responds, always_within, all_below_at, is_within, within, never_late, no_more}
-use Rattle.tcel_num.proofs.examples.lateness_example.Goals as goal
+use Rattle.tcel_demand.specs.Examples.{two_plans, quick_plan, slow_plan, end_within}
+use Rattle.tcel_demand.proofs.Served.{AreWhole}
+use Rattle.tcel_demand.proofs.Responses.{responds, always_within, all_below_at, is_within, within, never_late, no_more}
+use Rattle.tcel_demand.proofs.examples.lateness_example.Goals as goal
 
 whole : (bound : ℕ) → AreWhole (two_plans bound) 700 (served_counts (two_plans bound) 700)
 whole bound = (refl, refl, lit< tt, (refl, refl, lit< tt, tt))

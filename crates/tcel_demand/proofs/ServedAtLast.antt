@@ -6,10 +6,10 @@ use Rattle.std.proofs.lemmas.Nat.{le-div}
 use Rattle.std.proofs.lemmas.Bool.{cases_lt, cond_both, ltb-true, ltb-false}
 use Rattle.std.proofs.lemmas.List.Elements.{All-head, All-tail}
 use Rattle.std.proofs.lemmas.List.Sums.{sum_by-cons}
-use Rattle.tcel_num.specs.Hyperperiod.{IsCommonMultiple, demand}
+use Rattle.tcel_num.specs.Hyperperiod.{IsCommonMultiple, periods_of, demand}
 use Rattle.tcel_num.specs.Plan.{Plan}
 use Rattle.tcel_num.specs.Schedule.{released, is_pending, serve_highest, served_counts, served}
-use Rattle.tcel_num.proofs.Served.{served_mono, length-served}
+use Rattle.tcel_demand.proofs.Served.{served_mono, length-served}
 
 -- how much all tasks were served
 abbrev sum : List ℕ → ℕ
@@ -39,13 +39,13 @@ one_repeats p hyper k some e =
       | inr none ↦ let zero_period : p.period ≡ 0 = omega arith in let nothing = ap (λ n. k * n) zero_period in absurd (omega arith)
     ]
 
-repeat : (plans : List Plan) (hyper : ℕ) → 0 < hyper → IsCommonMultiple plans hyper → Repeat plans hyper
+repeat : (plans : List Plan) (hyper : ℕ) → 0 < hyper → IsCommonMultiple (periods_of plans) hyper → Repeat plans hyper
 repeat [] hyper some common = tt
 repeat (p ∷ plans) hyper some common =
-    let P : Plan → Type 0 = λ plan. (k : ℕ) × (hyper ≡ k * plan.period) in
-    let first = All-head P p plans common in
+    let P : ℕ → Type 0 = λ period. (k : ℕ) × (hyper ≡ k * period) in
+    let first = All-head P p.period (periods_of plans) common in
     let one = one_repeats p hyper first.0 some first.1 in
-    (one.0, one.1, repeat plans hyper some (All-tail P p plans common))
+    (one.0, one.1, repeat plans hyper some (All-tail P p.period (periods_of plans) common))
 
 -- more is released as time goes on
 released_rises : (plan : Plan) → 0 < plan.period → (early late : ℕ) → early ≤ late → released plan early ≤ released plan late
@@ -169,7 +169,7 @@ much_released plan hyper k some whole positive work =
     omega arith
 
 -- each task with some work is served any number of cycles, where in a time that is whole periods of all no more is asked for than it has ticks
-module _ (plans : List Plan) (hyper : ℕ) (some : 0 < hyper) (common : IsCommonMultiple plans hyper) (fits : demand plans hyper ≤ hyper) (i : ℕ) (plan : Plan) (e : slice_get plans i ≡ Some plan) (work : 0 < plan.total) where
+module _ (plans : List Plan) (hyper : ℕ) (some : 0 < hyper) (common : IsCommonMultiple (periods_of plans) hyper) (fits : demand plans hyper ≤ hyper) (i : ℕ) (plan : Plan) (e : slice_get plans i ≡ Some plan) (work : 0 < plan.total) where
   own : (hyper ≡ hyper / plan.period * plan.period) × (0 < plan.period)
   own = repeat_at plans hyper i plan (repeat plans hyper some common) e
 

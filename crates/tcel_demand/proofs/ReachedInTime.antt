@@ -5,7 +5,7 @@ use Rattle.std.proofs.lemmas.Bool.{cases_lt}
 use Rattle.tcel_num.specs.Lateness.{Place, IsFirstServed, IsResponse, IsNeverLate}
 use Rattle.tcel_num.specs.Plan.{Plan, Point}
 use Rattle.tcel_num.specs.Schedule.{served}
-use Rattle.tcel_num.proofs.Served.{served_mono}
+use Rattle.tcel_demand.proofs.Served.{served_mono}
 
 -- the first time at which so many cycles are served, if there is one
 first_time : (plans : List Plan) (task cycles later : ℕ) → cycles ≤ served plans later task → (time : ℕ) × IsFirstServed plans task cycles time × (time ≤ later)

@@ -9,15 +9,15 @@ at_least : (period multiple : ℕ) → 0 < multiple → (k : ℕ) × (multiple �
 at_least period multiple positive (zero, e) = absurd (omega arith)
 at_least period multiple positive (suc k, e) = omega arith
 
-abbrev HasMultiple : ℕ → Plan → Type 0
-HasMultiple n plan = (k : ℕ) × (n ≡ k * plan.period)
+abbrev HasMultiple : ℕ → ℕ → Type 0
+HasMultiple n period = (k : ℕ) × (n ≡ k * period)
 
 -- its period is its hyperperiod
 pub own_hyperperiod : (plan : Plan) → 0 < plan.period → IsHyperperiod (plan ∷ []) plan.period
 own_hyperperiod plan positive = record {
   positive = positive;
-  common = All-cons (HasMultiple plan.period) plan [] (1, omega arith) (All-nil (HasMultiple plan.period));
-  least = λ m some multiple. at_least plan.period m some (All-head (HasMultiple m) plan [] multiple);
+  common = All-cons (HasMultiple plan.period) plan.period [] (1, omega arith) (All-nil (HasMultiple plan.period));
+  least = λ m some multiple. at_least plan.period m some (All-head (HasMultiple m) plan.period [] multiple);
 }
 
 -- it has no other
