@@ -80,6 +80,18 @@ fn shortest_plan(alloc: Global) -> Result<[TaskPlan; 1], AllocError>
     Ok([plan(alloc, 1, 1, &[point(1, 1)])?])
 }
 
+// as many as there may be: one cycle of 16 ticks each
+fn sixteen_plans(alloc: Global) -> Result<Vec<TaskPlan>, AllocError>
+    ensures fit { IfOk result (λ plans. (hyper : ℕ) × Fit plans.items hyper) }
+    ensures last { IfOk result (λ plans. HasPoint plans.items 15 0) }
+{
+    let mut plans = Vec::new(alloc);
+    for _ in 0..16u64 {
+        plans.push(plan(alloc, 16, 1, &[point(1, 16)])?)?;
+    }
+    Ok(plans)
+}
+
 fn lateness(task: usize, frame: u64, response: u64, bound: u64) -> Option<Late> {
     Some(Late {
         task,
@@ -159,6 +171,20 @@ fn the_first_late_point_goes_by_the_order_of_the_plan(rt: HostRuntime) -> Result
         Worst {
             frame: 0,
             response: 1
+        }
+    );
+    Ok(())
+}
+
+#[test]
+fn sixteen_plans_fill_their_period(rt: HostRuntime) -> Result<(), Fail> {
+    let plans = sixteen_plans(rt.alloc())?;
+    assert_eq!(rt; late(&plans), None);
+    assert_eq!(rt;
+        worst(&plans, 15, 0),
+        Worst {
+            frame: 0,
+            response: 16
         }
     );
     Ok(())

@@ -14,6 +14,7 @@ pub mod Responses
 pub mod Served
 pub mod ServedAlone
 pub mod ServedAtLast
+pub mod Soonest
 pub mod Standings
 pub mod TickLemmas
 pub mod WholeHyperperiods

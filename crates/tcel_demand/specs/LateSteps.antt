@@ -1,5 +1,5 @@
 -- The late points of one step, and the earlier of two late points.
-use Rattle.std.specs.Prelude.{◌≡◌, ℕ, ◌<◌, ◌⊎◌, Option, Some, None, slice_get}
+use Rattle.std.specs.Prelude.{◌≡◌, ℕ, ◌<◌, ◌≤◌, ◌⊎◌, List, Option, Some, None, slice_get, slice_index}
 use Rattle.tcel_demand.specs.declared.step.Step.{Step}
 use Rattle.tcel_num.specs.Lateness.{Lateness, Precedes, place_of}
 use Rattle.tcel_num.specs.Plan.{Plan, Point}
@@ -25,3 +25,11 @@ pub record IsLateStep (plan : Plan) (step : Step) (late : Lateness) : Type 0 whe
 abbrev pub IsEarlier : Option Lateness → Lateness → Lateness → Type 0
 IsEarlier None late first = first ≡ late
 IsEarlier (Some other) late first = ((first ≡ late) × Precedes (place_of late) (place_of other)) ⊎ ((first ≡ other) × ¬ Precedes (place_of late) (place_of other))
+
+-- no point of the plan has a bound below this
+pub record IsSoonest (plan : Plan) (soonest : ℕ) : Type 0 where
+  pub each : (place : ℕ) (point : Point) → slice_get plan.points place ≡ Some point → soonest ≤ point.bound
+
+-- the same for each plan at its place
+abbrev pub AreSoonest : List Plan → List ℕ → Type 0
+AreSoonest plans soonest = (task : ℕ) (plan : Plan) → slice_get plans task ≡ Some plan → IsSoonest plan (slice_index soonest task)
