@@ -1,13 +1,13 @@
 -- The machine without counts: whether it reads tokens to their end.
-use Rattle.std.proofs.Common.{◌≡◌, ℕ, Bool, true, false, List, [], ◌∷◌, ◌++◌, Option, Some, None, refl, sym, ap, ◌∙◌, eq-eqb}
+use Rattle.std.proofs.Common.{◌≡◌, Bool, true, false, List, [], ◌∷◌, Option, Some, None, refl, eq-eqb}
 use Rattle.tcel_num.specs.declared.at.At.{At}
 use Rattle.tcel_num.specs.declared.op.Op.{Op}
 use Rattle.tcel_token.specs.declared.sign.Sign.{Sign}
 use Rattle.tcel_token.specs.declared.keyword.Keyword.{Keyword}
 use Rattle.tcel_token.specs.declared.token.TokenKind.{TokenKind}
 use Rattle.tcel_token.specs.Terminal.{Terminal}
-use Rattle.tcel_grammar.specs.Expressions.{Level, binary_of, level_of, placed, IsPlaced, here, IsToken, there, IsBinary, between}
-use Rattle.tcel_grammar.specs.Machine.{Symbol, Move, reads, skips, operand, behind_operand, behind_name, step, move, moved, ends, is_sign, this_word, this_sign, word_number, sign_number, goes_on, compared_after, at_operator}
+use Rattle.tcel_grammar.specs.Expressions.{Level, binary_of, here, IsToken, there, IsBinary, between}
+use Rattle.tcel_grammar.specs.Machine.{Symbol, operand, behind_operand, behind_name, step, ends, is_sign, this_word, this_sign, word_number, sign_number, goes_on, compared_after}
 
 -- what a stack at which reading has come does with the rest
 abbrev pub accepts_after : Option (List Symbol) → (List Symbol → Bool) → Bool

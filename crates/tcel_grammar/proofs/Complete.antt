@@ -1,5 +1,5 @@
 -- The machine reads each program.
-use Rattle.std.proofs.Common.{◌≡◌, ℕ, Bool, true, false, List, [], ◌∷◌, Option, Some, None, refl, sym, ap, ◌∙◌}
+use Rattle.std.proofs.Common.{◌≡◌, Bool, true, false, List, [], ◌∷◌, Option, None, refl, ◌∙◌}
 use Rattle.tcel_token.specs.declared.sign.Sign.{Sign}
 use Rattle.tcel_token.specs.declared.keyword.Keyword.{Keyword}
 use Rattle.tcel_token.specs.declared.token.TokenKind.{TokenKind}
@@ -9,9 +9,9 @@ use Rattle.tcel_tree.specs.declared.placed.Placed.{Placed}
 use Rattle.tcel_tree.specs.declared.stmt.Window.{Window}
 use Rattle.tcel_tree.specs.declared.task.Decl.{Decl}
 use Rattle.tcel_tree.specs.declared.task.DeclKind.{DeclKind}
-use Rattle.tcel_grammar.specs.Expressions.{Level, binary_of, disjunction, conjunction, comparison, sum, term, factor, atom, IsPlaced, here, IsToken, there, IsBinary, between, IsUnary, before, IsExpr, a_conjunction, disjoined, a_comparison, conjoined, a_sum, compared, a_term, added, a_factor, multiplied, an_atom, applied, a_number, yes, no, a_variable, an_element, bracketed}
+use Rattle.tcel_grammar.specs.Expressions.{Level, binary_of, disjunction, conjunction, comparison, sum, term, factor, atom, here, IsToken, there, before, IsExpr, a_conjunction, disjoined, a_comparison, conjoined, a_sum, compared, a_term, added, a_factor, multiplied, an_atom, applied, a_number, yes, no, a_variable, an_element, bracketed}
 use Rattle.tcel_grammar.specs.Statements.{IsWhole, IsNumber, numbered, IsClause, unsaid, said, IsWindow, window, IsBlock, block, IsStmts, no_more, one_more, IsStmt, assigned, assigned_at, received, sent, chosen, counted, repeated, done_in, IsBranch, no_else, with_else}
-use Rattle.tcel_grammar.specs.Programs.{IsFirst, unset, set, set_below, IsFirstTruth, unset_truth, set_true, set_false, IsInt, an_array, a_local, a_state, IsBool, a_local_truth, a_state_truth, IsDecl, an_input, an_output, an_int, a_bool, IsDecls, no_decl, one_decl, IsEvery, every, IsTask, task, IsProgram, last_task, one_task}
+use Rattle.tcel_grammar.specs.Programs.{unset, set, set_below, unset_truth, set_true, set_false, IsInt, an_array, a_local, a_state, IsBool, a_local_truth, a_state_truth, IsDecl, an_input, an_output, an_int, a_bool, IsDecls, no_decl, one_decl, every, IsTask, task, IsProgram, last_task, one_task}
 use Rattle.tcel_grammar.specs.Machine.{Symbol, operand, behind_operand, this_sign, this_word, any_name, any_number, more_stmts, more_decls, task_block, behind_int, behind_bool, more_tasks, one_block, do_clauses, behind_after, last_clause, expr, program, is_sign}
 use Rattle.tcel_grammar.proofs.Accepts.{accepts, last, operator_read, past_operand, sign_read, word_read}
 

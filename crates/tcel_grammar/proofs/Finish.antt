@@ -1,16 +1,16 @@
 -- Each stack reads some tokens, and what the first stack reads is a program.
-use Rattle.std.proofs.Common.{◌≡◌, Bool, true, false, List, [], ◌∷◌, Option, Some, None, inl, pos, refl, subst}
+use Rattle.std.proofs.Common.{◌≡◌, true, List, [], ◌∷◌, None, inl, pos, refl, subst}
 use Rattle.tcel_num.specs.declared.at.At.{At}
 use Rattle.tcel_token.specs.declared.keyword.Keyword.{Keyword}
 use Rattle.tcel_token.specs.declared.sign.Sign.{Sign}
 use Rattle.tcel_token.specs.declared.token.TokenKind.{TokenKind}
 use Rattle.tcel_token.specs.Terminal.{Terminal}
-use Rattle.tcel_tree.specs.Language.{Expr, done, Task, truth}
+use Rattle.tcel_tree.specs.Language.{Task, truth}
 use Rattle.tcel_grammar.specs.Expressions.{placed, here, there, a_conjunction, a_comparison, a_sum, a_term, a_factor, an_atom, yes}
 use Rattle.tcel_grammar.specs.Statements.{IsWhole, numbered, unsaid, said, window, block, no_more, assigned}
-use Rattle.tcel_grammar.specs.Programs.{set, set_true, keeper, an_int, no_decl, every, IsTask, task, IsProgram, last_task, one_task}
+use Rattle.tcel_grammar.specs.Programs.{set, set_true, an_int, no_decl, every, IsTask, task, IsProgram, last_task, one_task}
 use Rattle.tcel_grammar.specs.Machine.{Symbol, this_word, this_sign, any_name, any_number, operand, behind_operand, behind_name, more_stmts, one_block, behind_target, do_clauses, behind_start, behind_after, last_clause, more_decls, task_block, behind_keeper, behind_int, behind_bool, first_int, first_bool, more_tasks, program}
-use Rattle.tcel_grammar.proofs.Languages.{no_tail, Stmts, Decls, Tasks, no_task, and_task, L, All, none, also}
+use Rattle.tcel_grammar.proofs.Languages.{no_tail, Decls, Tasks, no_task, and_task, L, All, none, also}
 use Rattle.tcel_grammar.proofs.Sound.{as_operand, as_stmts, no_int, no_bool}
 
 -- a token at the first place
@@ -47,16 +47,18 @@ can_be do_clauses rest = (rest, (_, window unsaid unsaid unsaid))
 can_be behind_start rest = (a_word Keyword.After ∷ one ∷ rest, λ at. (_, window (said there there (numbered here)) unsaid unsaid))
 can_be behind_after rest = (rest, (None, None, rest, unsaid, unsaid))
 can_be last_clause rest = (rest, (None, unsaid))
-can_be more_decls rest =
-    (a_word Keyword.Every ∷ one ∷ a_sign Sign.LeftBrace ∷ a_sign Sign.RightBrace ∷ a_sign Sign.RightBrace ∷ rest,
-    ([], _, _, _, _, _, no_decl, every there (numbered here) unsaid (block there no_more there), there))
+can_be more_decls rest = (
+  a_word Keyword.Every ∷ one ∷ a_sign Sign.LeftBrace ∷ a_sign Sign.RightBrace ∷ a_sign Sign.RightBrace ∷ rest,
+  ([], _, _, _, _, _, no_decl, every there (numbered here) unsaid (block there no_more there), there),
+)
 can_be task_block rest =
     let d = can_be_decls rest in (a_sign Sign.LeftBrace ∷ d.0, (_, there, d.1))
   where
     can_be_decls : (rest : List Terminal) → (ts : List Terminal) × Decls ts rest
-    can_be_decls rest =
-        (a_word Keyword.Every ∷ one ∷ a_sign Sign.LeftBrace ∷ a_sign Sign.RightBrace ∷ a_sign Sign.RightBrace ∷ rest,
-        ([], _, _, _, _, _, no_decl, every there (numbered here) unsaid (block there no_more there), there))
+    can_be_decls rest = (
+      a_word Keyword.Every ∷ one ∷ a_sign Sign.LeftBrace ∷ a_sign Sign.RightBrace ∷ a_sign Sign.RightBrace ∷ rest,
+      ([], _, _, _, _, _, no_decl, every there (numbered here) unsaid (block there no_more there), there),
+    )
 can_be (behind_keeper state) rest =
     (a_word Keyword.Int ∷ some (TokenKind.Name (120 ∷ [])) ∷ a_sign Sign.Semicolon ∷ rest, λ at. (_, an_int there there here (no_int state).1 there))
 can_be (behind_int state) rest = (rest, no_int state)

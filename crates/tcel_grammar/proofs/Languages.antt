@@ -1,5 +1,5 @@
 -- What each symbol of the machine may read, by the grammar.
-use Rattle.std.proofs.Common.{◌≡◌, ℕ, ℤ, Bool, true, false, List, [], ◌∷◌, ◌++◌, Option, Some, None, ◌⊎◌, inl, inr, refl, sym, ap, ◌∙◌, pos, cond, nat_lt, not}
+use Rattle.std.proofs.Common.{◌≡◌, ℕ, ℤ, Bool, true, false, List, [], ◌∷◌, ◌++◌, Option, ◌⊎◌, refl}
 use Rattle.std.proofs.lemmas.Bool.{true≢false}
 use Rattle.tcel_num.specs.declared.at.At.{At}
 use Rattle.tcel_num.specs.declared.op.Op.{Op}
@@ -7,15 +7,15 @@ use Rattle.tcel_token.specs.declared.keyword.Keyword.{Keyword}
 use Rattle.tcel_token.specs.declared.sign.Sign.{Sign}
 use Rattle.tcel_token.specs.declared.token.TokenKind.{TokenKind}
 use Rattle.tcel_token.specs.Terminal.{Terminal}
-use Rattle.tcel_tree.specs.Language.{Expr, Block, done, Stmt, Branch, Task}
+use Rattle.tcel_tree.specs.Language.{Expr, Block, Stmt, Branch, Task}
 use Rattle.tcel_tree.specs.declared.placed.Placed.{Placed}
 use Rattle.tcel_tree.specs.declared.stmt.Window.{Window}
 use Rattle.tcel_tree.specs.declared.task.Decl.{Decl}
 use Rattle.tcel_tree.specs.declared.task.DeclKind.{DeclKind}
-use Rattle.tcel_grammar.specs.Expressions.{Level, disjunction, conjunction, comparison, sum, term, factor, atom, placed, IsPlaced, here, IsToken, there, IsBinary, between, IsExpr, a_conjunction, disjoined, a_comparison, conjoined, a_sum, compared, a_term, added, a_factor, multiplied, an_atom, yes}
-use Rattle.tcel_grammar.specs.Statements.{IsWhole, IsNumber, numbered, IsClause, unsaid, said, IsWindow, window, IsBlock, block, IsStmts, no_more, IsStmt, assigned, IsBranch, no_else}
-use Rattle.tcel_grammar.specs.Programs.{IsFirst, set, IsFirstTruth, set_true, IsInt, a_local, a_state, unset, IsBool, a_local_truth, a_state_truth, unset_truth, keeper, IsDecl, an_int, IsDecls, no_decl, IsEvery, every, IsTask, IsProgram, last_task, one_task}
-use Rattle.tcel_grammar.specs.Machine.{Symbol, this_word, this_sign, any_name, any_number, operand, behind_operand, behind_name, more_stmts, one_block, behind_target, do_clauses, behind_start, behind_after, last_clause, more_decls, task_block, behind_keeper, behind_int, behind_bool, first_int, first_bool, more_tasks, goes_on, compared_after, task_tail, program}
+use Rattle.tcel_grammar.specs.Expressions.{Level, disjunction, conjunction, comparison, sum, term, factor, atom, placed, IsPlaced, IsToken, IsBinary, IsExpr, a_conjunction, disjoined, a_comparison, conjoined, a_sum, compared, a_term, added, a_factor, multiplied}
+use Rattle.tcel_grammar.specs.Statements.{IsWhole, IsNumber, IsClause, IsWindow, IsBlock, IsStmts, IsStmt, IsBranch}
+use Rattle.tcel_grammar.specs.Programs.{IsFirst, IsFirstTruth, IsInt, IsBool, keeper, IsDecl, IsDecls, IsEvery, IsTask}
+use Rattle.tcel_grammar.specs.Machine.{Symbol, this_word, this_sign, any_name, any_number, operand, behind_operand, behind_name, more_stmts, one_block, behind_target, do_clauses, behind_start, behind_after, last_clause, more_decls, task_block, behind_keeper, behind_int, behind_bool, first_int, first_bool, more_tasks, goes_on, compared_after}
 
 -- ---- expressions
 

@@ -7,3 +7,7 @@ pub mod Finish
 pub mod Weights
 pub mod Counting
 pub mod Places
+pub mod Steps
+pub mod Trees
+pub mod OneTree
+pub mod OneAnswer

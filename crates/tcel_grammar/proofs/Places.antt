@@ -1,20 +1,19 @@
 -- How the machine ends says whether tokens are a program's, and where they go wrong.
-use Rattle.std.proofs.Common.{◌≡◌, ℕ, ◌+◌, ◌-◌, ◌<◌, ◌≤◌, Bool, true, false, List, [], ◌∷◌, ◌++◌, Option, Some, None, refl, sym, ap, ◌∙◌, subst, arith, append_assoc, nat_lt}
+use Rattle.std.proofs.Common.{◌≡◌, ◌+◌, ◌≤◌, Bool, true, false, List, [], ◌∷◌, ◌++◌, Option, Some, None, refl, sym, ap, ◌∙◌, subst, arith, append_assoc, nat_lt}
 use Rattle.std.proofs.lemmas.Bool.{true≢false, ltb-true, ltb-false}
 use Rattle.std.proofs.lemmas.List.{append-nil}
 use Rattle.tcel_num.specs.declared.at.At.{At}
 use Rattle.tcel_token.specs.Terminal.{Terminal}
-use Rattle.tcel_tree.specs.Language.{Task}
 use Rattle.tcel_grammar.specs.declared.deep.Deep.{Deep}
-use Rattle.tcel_grammar.specs.Programs.{IsProgram, Begins}
-use Rattle.tcel_grammar.specs.Faults.{is_opening, is_closing, is_operator, unclosed, operators, IsTooDeep, IsShallow, place_of, IsSyntaxFault, IsDepthFault}
+use Rattle.tcel_grammar.specs.Programs.{Begins}
+use Rattle.tcel_grammar.specs.Faults.{is_opening, is_operator, unclosed, operators, IsTooDeep, IsShallow, place_of, IsSyntaxFault, IsDepthFault}
 use Rattle.tcel_grammar.specs.Machine.{Symbol, program, step, ends, Counts, zero_counts, Entered, within_limits, too_deep, enter, counts_after, brackets_after, operators_after, Outcome, accepted, stopped, deep, ended, after_token, run}
 use Rattle.tcel_grammar.proofs.Accepts.{accepts}
 use Rattle.tcel_grammar.proofs.Complete.{reads_program}
 use Rattle.tcel_grammar.proofs.Languages.{All}
 use Rattle.tcel_grammar.proofs.Sound.{step_back}
 use Rattle.tcel_grammar.proofs.Finish.{can_come, program_of}
-use Rattle.tcel_grammar.proofs.Weights.{bit, weight, step_weighs}
+use Rattle.tcel_grammar.proofs.Weights.{weight, step_weighs}
 use Rattle.tcel_grammar.proofs.Counting.{openings, closings, openings-push, closings-push, unclosed-push, operators-push, EnteredBy, enters, shallow-push, shallow-nil}
 
 -- the machine has come behind these tokens with this stack and these counts

@@ -1,23 +1,20 @@
 -- What the machine has read can be finished: each move keeps to the grammar, and each stack reads some tokens.
-use Rattle.std.proofs.Common.{◌≡◌, ℕ, ℤ, Bool, true, false, cond, List, [], ◌∷◌, ◌++◌, Option, Some, None, ◌⊎◌, inl, inr, refl, sym, ap, ◌∙◌, subst, pos, ◌&&◌, not, nat_lt}
+use Rattle.std.proofs.Common.{◌≡◌, ℕ, ℤ, Bool, true, false, cond, List, [], ◌∷◌, Option, Some, None, inl, inr, refl, sym, subst, ◌&&◌, nat_lt}
 use Rattle.std.proofs.lemmas.Bool.{true≢false}
 use Rattle.std.proofs.lemmas.Option.{same_Some}
 use Rattle.std.specs.Cmp.Derive.{both_true}
-use Rattle.tcel_num.specs.declared.at.At.{At}
 use Rattle.tcel_num.specs.declared.op.Op.{Op}
 use Rattle.tcel_token.specs.declared.keyword.Keyword.{Keyword}
 use Rattle.tcel_token.specs.declared.sign.Sign.{Sign}
 use Rattle.tcel_token.specs.declared.token.TokenKind.{TokenKind}
 use Rattle.tcel_token.specs.Terminal.{Terminal}
-use Rattle.tcel_tree.specs.declared.placed.Placed.{Placed}
 use Rattle.tcel_tree.specs.declared.stmt.Window.{Window}
 use Rattle.tcel_tree.specs.declared.task.Decl.{Decl}
-use Rattle.tcel_tree.specs.declared.task.DeclKind.{DeclKind}
-use Rattle.tcel_tree.specs.Language.{Expr, Block, done, Stmt, Task, number}
-use Rattle.tcel_grammar.specs.Expressions.{Level, disjunction, conjunction, comparison, sum, term, factor, atom, placed, IsPlaced, here, IsToken, there, binary_of, unary_of, level_of, IsBinary, between, IsUnary, before, IsExpr, a_conjunction, a_comparison, a_sum, a_term, a_factor, an_atom, applied, a_number, yes, no, a_variable, an_element, bracketed}
-use Rattle.tcel_grammar.specs.Statements.{IsWhole, IsNumber, numbered, IsClause, unsaid, said, IsWindow, window, IsBlock, block, IsStmts, no_more, one_more, IsStmt, assigned, assigned_at, received, sent, chosen, counted, repeated, done_in, IsBranch, no_else, with_else}
-use Rattle.tcel_grammar.specs.Programs.{IsFirst, unset, set, set_below, IsFirstTruth, unset_truth, set_true, set_false, IsInt, an_array, a_local, a_state, IsBool, a_local_truth, a_state_truth, keeper, IsDecl, an_input, an_output, an_int, a_bool, IsDecls, no_decl, one_decl, IsEvery, every, IsTask, task, IsProgram, last_task, one_task}
-use Rattle.tcel_grammar.specs.Machine.{Symbol, this_word, this_sign, any_name, any_number, operand, behind_operand, behind_name, more_stmts, one_block, behind_target, do_clauses, behind_start, behind_after, last_clause, more_decls, task_block, behind_keeper, behind_int, behind_bool, first_int, first_bool, more_tasks, goes_on, compared_after, rank, is_comparison, task_tail, program, expr, Move, reads, skips, stops, move, moved, step, at_operator, at_name_end, at_operand, at_stmts, at_decls, at_within, is_word, is_sign, is_name, is_numeral}
+use Rattle.tcel_tree.specs.Language.{Expr, Stmt}
+use Rattle.tcel_grammar.specs.Expressions.{atom, IsPlaced, here, IsToken, there, binary_of, unary_of, level_of, between, before, IsExpr, an_atom, applied, a_number, yes, no, a_variable, an_element, bracketed}
+use Rattle.tcel_grammar.specs.Statements.{numbered, unsaid, said, IsWindow, window, block, no_more, one_more, IsStmt, assigned, assigned_at, received, sent, chosen, counted, repeated, done_in, no_else, with_else}
+use Rattle.tcel_grammar.specs.Programs.{IsFirst, unset, set, set_below, IsFirstTruth, unset_truth, set_true, set_false, an_array, a_local, a_state, a_local_truth, a_state_truth, keeper, IsDecl, an_input, an_output, an_int, a_bool, no_decl, one_decl, every, task}
+use Rattle.tcel_grammar.specs.Machine.{Symbol, this_word, this_sign, any_name, any_number, operand, behind_operand, behind_name, more_stmts, one_block, behind_target, do_clauses, behind_start, behind_after, last_clause, more_decls, task_block, behind_keeper, behind_int, behind_bool, first_int, first_bool, more_tasks, goes_on, compared_after, rank, task_tail, expr, Move, reads, skips, stops, move, moved, step, at_operator, at_name_end, at_operand, at_stmts, at_decls, at_within, is_word, is_sign, is_name, is_numeral}
 use Rattle.tcel_grammar.proofs.Tests.{same_word, same_sign, some_name, some_number, is_here, is_there, as_placed, low_operator}
 use Rattle.tcel_grammar.proofs.Languages.{Tail, no_tail, tail, whole_of, operand_level, Stmts, Later, Decls, Tasks, no_task, and_task, L, All, none, also, split_all}
 

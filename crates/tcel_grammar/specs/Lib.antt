@@ -3,3 +3,4 @@ pub mod Statements
 pub mod Programs
 pub mod Faults
 pub mod Machine
+pub mod Examples

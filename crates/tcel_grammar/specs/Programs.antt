@@ -1,6 +1,8 @@
 -- The grammar of declarations, tasks and programs.
-use Rattle.std.specs.Prelude.{ℕ, ℤ, neg_ℤ, Bool, true, false, List, [], ◌∷◌, ◌++◌, Option, Some, None}
+use Rattle.std.specs.Prelude.{ℕ, ℤ, Bool, true, false, List, [], ◌∷◌, ◌++◌, Option, Some, None}
+use Rattle.tcel_num.specs.Arithmetic.{unary_value}
 use Rattle.tcel_num.specs.declared.at.At.{At}
+use Rattle.tcel_num.specs.declared.op.Op.{Op}
 use Rattle.tcel_token.specs.declared.keyword.Keyword.{Keyword}
 use Rattle.tcel_token.specs.declared.sign.Sign.{Sign}
 use Rattle.tcel_token.specs.declared.token.TokenKind.{TokenKind}
@@ -12,14 +14,14 @@ use Rattle.tcel_tree.specs.Language.{Block, Task}
 use Rattle.tcel_grammar.specs.Expressions.{IsPlaced, IsToken}
 use Rattle.tcel_grammar.specs.Statements.{IsNumber, IsClause, IsBlock}
 
--- [ "=" [ "-" ] NUMBER ]
+-- [ "=" [ "-" ] NUMBER ], where the sign means what it means in front of an operand
 pub data IsFirst : List Terminal → Option ℤ → List Terminal → Type 0 where
   unset : {ts : List Terminal} → IsFirst ts None ts
   set : {ts a rest : List Terminal} {at : At} {n : ℤ} →
       IsToken (TokenKind.Sign Sign.Is) ts a → IsPlaced (TokenKind.Number n) a at rest → IsFirst ts (Some n) rest
   set_below : {ts a b rest : List Terminal} {at : At} {n : ℤ} →
       IsToken (TokenKind.Sign Sign.Is) ts a → IsToken (TokenKind.Sign Sign.Minus) a b → IsPlaced (TokenKind.Number n) b at rest →
-      IsFirst ts (Some (neg_ℤ n)) rest
+      IsFirst ts (Some (unary_value Op.Neg n)) rest
 
 -- [ "=" ( "true" | "false" ) ]
 pub data IsFirstTruth : List Terminal → Option Bool → List Terminal → Type 0 where

@@ -3,5 +3,9 @@
 #![tactic(auto)]
 
 mod deep;
+mod examples;
+mod laws;
 
 pub use deep::Deep;
+pub use examples::{fault_examples, tree_examples};
+pub use laws::{machine_laws, one_answer, one_tree, some_answer};
