@@ -1,0 +1,12 @@
+pub mod Ending
+pub mod Forms
+pub mod LaidTokens
+pub mod PutExprs
+pub mod PutStmts
+pub mod Putting
+pub mod ReadExprs
+pub mod ReadPrograms
+pub mod ReadStmts
+pub mod Reading
+pub mod SameTokens
+pub mod Worked
