@@ -1,8 +1,11 @@
 -- Canonical tokens are read as the tree that they were made of: declarations, tasks and programs.
 use Rattle.std.proofs.Common.{◌≡◌, ℕ, zero, suc, Bool, true, false, List, [], ◌∷◌, ◌++◌, Option, Some, None, map, option_map, refl, sym, ap, ◌∙◌, subst}
 use Rattle.std.proofs.Common.{arith}
-use Rattle.std.proofs.lemmas.Int.{ints}
+use Rattle.std.proofs.lemmas.Int.{ints, int_wrap_fits}
+use Rattle.std.specs.Int.{w64}
 use Rattle.std.specs.Prelude.{ℤ, pos, negsuc, neg_ℤ, flat_map}
+use Rattle.tcel_num.specs.Arithmetic.{unary_value}
+use Rattle.tcel_num.specs.declared.op.Op.{Op}
 use Rattle.tcel_num.specs.declared.at.At.{At}
 use Rattle.tcel_token.specs.declared.keyword.Keyword.{Keyword}
 use Rattle.tcel_token.specs.declared.sign.Sign.{Sign}
@@ -22,10 +25,17 @@ use Rattle.tcel_show.specs.Canonical.{word, sign, clause_tokens, braced, block_t
 use Rattle.tcel_show.proofs.ReadExprs.{Front, Spells, Split, split, front_placed, front_token, last_placed, last_token, Writable, writable_then, placed_writable, token_writable}
 use Rattle.tcel_show.proofs.ReadStmts.{NumberKnown, number_known, placed_number, front_number, ReadsClause, clause_reads, ClauseKnown, clause_known, BlockKnown, KnowsBlock, block_known, ReadsBraced, braced_reads, braced_writable, ap_two, ap_three}
 
-first_reads : (first : Option ℤ) {ts rest : List Terminal} → Spells (first_tokens first) ts rest → IsFirst ts first rest
-first_reads None {ts} s = subst (λ (xs : List Terminal). IsFirst ts None xs) s unset
-first_reads (Some (pos n)) s = set (front_token s.1) (last_placed s.2)
-first_reads (Some (negsuc n)) s = set_below (front_token s.1) (front_token s.2.1) (last_placed s.2.2)
+-- the number below 0 of a written one is not wrapped
+below_same : (n : ℤ) → IsWritable (TokenKind.Number n) → unary_value Op.Neg n ≡ neg_ℤ n
+below_same (pos zero) w = int_wrap_fits w64 (pos zero) (record { sfits = omega arith })
+below_same (pos (suc n)) w = int_wrap_fits w64 (negsuc n) (record { sfits = omega (arith, ints) })
+below_same (negsuc n) w = absurd (omega (arith, ints))
+
+first_reads : (first : Option ℤ) {ts rest : List Terminal} → Writable (first_tokens first) → Spells (first_tokens first) ts rest → IsFirst ts first rest
+first_reads None {ts} w s = subst (λ (xs : List Terminal). IsFirst ts None xs) s unset
+first_reads (Some (pos n)) w s = set (front_token s.1) (last_placed s.2)
+first_reads (Some (negsuc n)) {ts} {rest} w s =
+    subst (λ (z : ℤ). IsFirst ts (Some z) rest) (below_same (pos (suc n)) w.1.1.0) (set_below (front_token s.1) (front_token s.2.1) (last_placed s.2.2))
 
 first_truth_reads : (first : Option Bool) {ts rest : List Terminal} → Spells (first_truth_tokens first) ts rest → IsFirstTruth ts first rest
 first_truth_reads None {ts} s = subst (λ (xs : List Terminal). IsFirstTruth ts None xs) s unset_truth
@@ -51,7 +61,7 @@ first_known unset w = record { tokens = tt; behind = w }
 first_known (set {n = n} i p) w = let q = placed_writable p (token_writable i w) in record { tokens = natural_first n q.0; behind = q.1 }
 first_known (set_below {n = n} i m p) w =
     let q = placed_writable p (token_writable m (token_writable i w)) in
-    record { tokens = below_first n q.0; behind = q.1 }
+    record { tokens = subst (λ (z : ℤ). Writable (first_tokens (Some z))) (sym (below_same n q.0)) (below_first n q.0); behind = q.1 }
 
 record TruthKnown (first : Option Bool) (rest : List Terminal) : Type 0 where
   pub tokens : Writable (first_truth_tokens first)
@@ -100,7 +110,7 @@ int_known (a_state {first = first} f) w =
     record {
       front = refl;
       tokens = q.tokens;
-      reads = λ us vs s. record { tree = DeclKind.Int true first; grammar = a_state (first_reads first s); same = refl };
+      reads = λ us vs s. record { tree = DeclKind.Int true first; grammar = a_state (first_reads first q.tokens s); same = refl };
       behind = q.behind;
     }
 
