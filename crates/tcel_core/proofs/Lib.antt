@@ -1,4 +1,8 @@
 mod InputsLemmas
+mod Places
+mod SoundPorts
+mod Variables
+pub mod Evaluation
 pub mod MeaningLaws
 pub mod PromiseLaws
 pub mod PlainLaws

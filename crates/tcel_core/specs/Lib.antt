@@ -1,10 +1,12 @@
 pub mod Cells
 pub mod Contents
+pub mod Evaluation
 pub mod Examples
 pub mod Frames
 pub mod Inputs
 pub mod Kept
 pub mod Kinds
+pub mod Layout
 pub mod Language
 pub mod Limits
 pub mod Meaning
@@ -14,6 +16,7 @@ pub mod Outcome
 pub mod Parts
 pub mod Paths
 pub mod Plain
+pub mod Ports
 pub mod Promises
 pub mod Rows
 pub mod Scope

@@ -1,5 +1,6 @@
 -- Which variables an item reads and writes. A loop writes whatever is written in it, and reads whatever is read or written in it.
-use Rattle.std.specs.Prelude.{ℕ, Bool, false, ◌==◌, ◌||◌}
+use Rattle.std.specs.Prelude.{◌≡◌, ℕ, Bool, false, ◌==◌, ◌||◌, List, filter}
+use Rattle.tcel_core.specs.Numbering.{numbers_from}
 use Rattle.tcel_core.specs.Language.{Expr, number, variable, element, unary, binary, Block, done, next, Stmt, item, choice, timed, Act, assign, assign_at, receive, send, for_loop, while_loop, copy}
 
 -- whether a variable stands in an expression
@@ -49,3 +50,7 @@ abbrev mutual
   act_reads (for_loop x turns body) v = (x == v) || (block_writes body v || block_reads body v)
   act_reads (while_loop test turns body) v = expr_reads test v || (block_writes body v || block_reads body v)
   act_reads (copy from to) v = from == v
+
+-- the variables of a task for which this holds, rising: a task has at most 256
+pub record AreVariables (holds : ℕ → Bool) (list : List ℕ) : Type 0 where
+  pub all : list ≡ filter holds (numbers_from 0 256)

@@ -1,12 +1,33 @@
-ghost use Rattle.std.specs.Prelude.{◌≡◌, ◌||◌};
+ghost use Rattle.std.specs.Prelude.{◌≡◌, ◌||◌, ◌++◌, [], ◌∷◌, if◌then◌else◌, IfOk, filter};
+ghost use Rattle.tcel_core.specs.Numbering.{numbers_from};
 ghost use Rattle.tcel_core.specs.Contents.{act_has_event, has_event, stmt_has_event};
 ghost use Rattle.tcel_core.specs.Plain.{plain_body, plain_expr, plain_item, plain_stmt};
-ghost use Rattle.tcel_core.specs.Rows.{Adds};
-ghost use Rattle.tcel_core.specs.Uses.{act_reads, act_writes, block_reads, block_writes, expr_reads, stmt_reads, stmt_writes};
+ghost use Rattle.tcel_core.specs.Rows.{Adds, stands_in};
+ghost use Rattle.tcel_core.specs.Uses.{AreVariables, act_reads, act_writes, block_reads, block_writes, expr_reads, stmt_reads, stmt_writes};
 
 use crate::body::{Body, CoreStmt, Item};
 use crate::expr::CoreExpr;
 use crate::row::Row;
+use std::alloc::Global;
+use tcel_num::NoMemory;
+
+/// The variables that an item reads, by rising numbers below 256: for a loop whatever is read or written in it (docs/slicing.md).
+pub fn reads(alloc: Global, item: &Item) -> Result<Vec<u32>, NoMemory>
+    ensures { IfOk result (λ list. AreVariables (act_reads (plain_item item.now)) list.items) }
+{
+    let mut row = Row::empty();
+    add_reads(item, &mut row);
+    variables_in(alloc, &row, 256)
+}
+
+/// The variables that an item writes, by rising numbers below 256: for a loop whatever is written in it (docs/slicing.md).
+pub fn writes(alloc: Global, item: &Item) -> Result<Vec<u32>, NoMemory>
+    ensures { IfOk result (λ list. AreVariables (act_writes (plain_item item.now)) list.items) }
+{
+    let mut row = Row::empty();
+    add_writes(item, &mut row);
+    variables_in(alloc, &row, 256)
+}
 
 /// Adds the variables that stand in an expression.
 pub fn add_expr_reads(expr: &CoreExpr, row: &mut Row)
@@ -198,4 +219,25 @@ fn stmt_has_event(stmt: &CoreStmt) -> bool
         } => body_has_event(yes) || body_has_event(no),
         CoreStmt::Do { body, .. } => body_has_event(body),
     }
+}
+
+/// The variables below a number that stand in a row.
+fn variables_in(alloc: Global, row: &Row, most: u32) -> Result<Vec<u32>, NoMemory>
+    ensures { IfOk result (λ list. list.items ≡ filter (stands_in row.now) (numbers_from 0 most)) }
+{
+    let mut list = Vec::new(alloc);
+    for var in 0..most {
+        push_where(row.has(var), var, &mut list)?;
+    }
+    Ok(list)
+}
+
+/// Appends a number where it is wanted.
+fn push_where(wanted: bool, var: u32, list: &mut Vec<u32>) -> Result<(), NoMemory>
+    ensures { IfOk result (λ _. list.new.items ≡ (if wanted then list.old.items ++ (var ∷ []) else list.old.items)) }
+{
+    if wanted {
+        list.push(var)?;
+    }
+    Ok(())
 }

@@ -1,12 +1,10 @@
 //! The tick machine: it runs a verified image on a script, one tick a call.
 #![tactic(auto)]
 
-mod cells;
 mod cycle;
 mod entry;
 mod execute;
 mod machine;
-mod operator;
 mod stack;
 mod start;
 mod step;

@@ -4,10 +4,9 @@ ghost use Rattle.tcel_num.specs.Words.{element, with_element, copied};
 ghost use Rattle.tcel_image.specs.Machine.{go_on, move_to, top, below, applied, counted, end_frame};
 ghost use Rattle.tcel_machine.specs.Task.{running_of, Becomes, Holds, HasCells, state_of};
 
-use crate::cells::{clear, copy, element, set_element};
-use crate::operator::{binary, holds, is_unary, unary};
 use crate::stack::Stack;
 use tcel_num::{Op, add};
+use tcel_word::{binary, clear, copy, element, holds, set_element, unary};
 
 /// A task that runs. `dispatched` counts the ticks of the current frame's start, `spent` the cycles of the
 /// current instruction, `taken` the values that each input has given, `words` the cells of the states.
@@ -77,7 +76,7 @@ impl Task {
         ensures { Becomes self.old self.new (go_on (element self.old.cells.items first size (top self.old.stack) ∷ below self.old.stack) self.old.cells.items (running_of self.old)).task }
     {
         let index = self.stack.pop();
-        let value = element(self.cells.as_slice(), first, size, index);
+        let value = element(self.cells.as_slice(), first as usize, size as usize, index);
         self.push(value);
     }
 
@@ -89,7 +88,7 @@ impl Task {
     {
         let value = self.stack.pop();
         let index = self.stack.pop();
-        set_element(self.cells.as_mut_slice(), first, size, index, value);
+        set_element(self.cells.as_mut_slice(), first as usize, size as usize, index, value);
         self.go_on();
     }
 
@@ -137,7 +136,7 @@ impl Task {
         requires to { HasCells to size (running_of self.old) }
         ensures { Becomes self.old self.new (go_on self.old.stack (copied self.old.cells.items from to size) (running_of self.old)).task }
     {
-        copy(self.cells.as_mut_slice(), from, to, size);
+        copy(self.cells.as_mut_slice(), from as usize, to as usize, size as usize);
         self.go_on();
     }
 
@@ -194,7 +193,7 @@ fn apply(stack: &mut Stack, op: Op)
     ensures { stack.new ≡ applied op stack.old }
 {
     let a = stack.pop();
-    let value = if is_unary(op) {
+    let value = if op.is_unary() {
         unary(op, a)
     } else {
         binary(op, stack.pop(), a)

@@ -1,10 +1,10 @@
 ghost use Rattle.std.specs.Prelude.{◌≡◌};
-ghost use Rattle.tcel_num.specs.Arithmetic.{holds, truth, is_unary, unary_value, binary_value};
+ghost use Rattle.tcel_num.specs.Arithmetic.{holds, truth, unary_value, binary_value};
 
 use tcel_num::{Op, add, div, mul, neg, rem, sub};
 
 /// Whether a truth operand holds.
-pub(crate) fn holds(value: i64) -> bool
+pub fn holds(value: i64) -> bool
     ensures { result ≡ holds value }
 {
     value != 0
@@ -16,15 +16,8 @@ fn truth(holds: bool) -> i64
     i64::from(holds)
 }
 
-/// Whether the operator takes one operand.
-pub(crate) fn is_unary(op: Op) -> bool
-    ensures { result ≡ is_unary op }
-{
-    matches!(op, Op::Neg | Op::Not)
-}
-
-/// What an operator of one operand gives.
-pub(crate) fn unary(op: Op, a: i64) -> i64
+/// What an operator of one operand gives, and 0 for any other operator.
+pub fn unary(op: Op, a: i64) -> i64
     ensures { result ≡ unary_value op a }
 {
     match op {
@@ -34,8 +27,8 @@ pub(crate) fn unary(op: Op, a: i64) -> i64
     }
 }
 
-/// What an operator of two operands gives.
-pub(crate) fn binary(op: Op, a: i64, b: i64) -> i64
+/// What an operator of two operands gives, and 0 for any other operator.
+pub fn binary(op: Op, a: i64, b: i64) -> i64
     ensures { result ≡ binary_value op a b }
 {
     match op {
