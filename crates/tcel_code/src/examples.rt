@@ -1,13 +1,51 @@
-ghost use Rattle.std.specs.Prelude.{[], ◌∷◌, All};
+ghost use Rattle.std.specs.Prelude.{◌≡◌, [], ◌∷◌, map, All};
 ghost use Rattle.tcel_num.specs.Lateness.{IsNeverLate};
 ghost use Rattle.tcel_core.specs.Scope.{TaskFits};
 ghost use Rattle.tcel_target.specs.Costs.{unit_costs};
-ghost use Rattle.tcel_cost.specs.Examples.{windowed_plan, windowed_task};
-ghost use Rattle.tcel_code.specs.Theorem.{RunsMeet};
+ghost use Rattle.tcel_image.specs.Machine.{trace};
+ghost use Rattle.tcel_cost.specs.Examples.{late_plans, overrunning, overrunning_plans, pair, pair_plans, sliced_counter, sliced_counter_plan, windowed_plan, windowed_task};
+ghost use Rattle.tcel_code.specs.Code.{frame_code};
+ghost use Rattle.tcel_code.specs.Counters.{counters_of};
+ghost use Rattle.tcel_code.specs.Examples.{loops_body, loops_code, loops_first, loops_rest, loops_vars, overrunning_streams, overrunning_trace, pair_streams, pair_trace, sliced_image, sliced_streams, sliced_trace};
+ghost use Rattle.tcel_code.specs.Layout.{image_of, layout};
+ghost use Rattle.tcel_code.specs.PartsFit.{PartsFit};
+ghost use Rattle.tcel_code.specs.Theorem.{RunsMeet, RunsOfFormsMeet};
 
 /// A task with a `do` block, in time, and its runs (docs/analysis.md).
 pub fn window_examples()
     ensures fits { All TaskFits (windowed_task ∷ []) }
     ensures in_time { IsNeverLate (windowed_plan ∷ []) }
     ensures meets { RunsMeet (windowed_task ∷ []) unit_costs (windowed_plan ∷ []) }
+{}
+
+/// Two tasks that use every tick, of which the higher waits in a block (docs/analysis.md).
+pub fn pair_example()
+    ensures fits { All TaskFits pair }
+    ensures in_time { IsNeverLate pair_plans }
+    ensures meets { RunsMeet pair unit_costs pair_plans }
+    ensures trace { trace (image_of pair unit_costs) pair_streams 20 ≡ pair_trace }
+{}
+
+/// A task that is sliced: its image, its runs, and one of them (docs/machine.md).
+pub fn sliced_example()
+    ensures fits { All PartsFit (sliced_counter ∷ []) }
+    ensures image { layout (sliced_counter ∷ []) unit_costs ≡ sliced_image }
+    ensures in_time { IsNeverLate (sliced_counter_plan ∷ []) }
+    ensures meets { RunsOfFormsMeet (sliced_counter ∷ []) unit_costs (sliced_counter_plan ∷ []) }
+    ensures trace { trace (layout (sliced_counter ∷ []) unit_costs) sliced_streams 10 ≡ sliced_trace }
+{}
+
+/// Two tasks of which the lower one is late as a whole, and in time where it is sliced, though its rest runs past its
+/// period (docs/analysis.md).
+pub fn overrunning_example()
+    ensures fits { All PartsFit overrunning }
+    ensures late { ¬ (IsNeverLate late_plans) }
+    ensures in_time { IsNeverLate overrunning_plans }
+    ensures meets { RunsOfFormsMeet overrunning unit_costs overrunning_plans }
+    ensures trace { trace (layout overrunning unit_costs) overrunning_streams 30 ≡ overrunning_trace }
+{}
+
+/// The counters of loops that stand in different parts (docs/machine.md).
+pub fn counters_example()
+    ensures code { frame_code loops_first loops_rest loops_vars (counters_of loops_body loops_vars) ≡ loops_code }
 {}

@@ -15,7 +15,7 @@ use Rattle.tcel_target.specs.declared.costs.Costs.{Costs}
 use Rattle.tcel_cost.specs.Hold.{hold_of}
 use Rattle.tcel_cost.specs.Expressions.{expr_cycles}
 use Rattle.tcel_cost.specs.Walks.{Counts, Walks, IsGreatest, IsLast, FirstAt, LastAt, IsFirstCount, IsLastCount, held_entry}
-use Rattle.tcel_cost.specs.WholePlan.{ArePoints, AreStmtPoints, AreBlockPoints, IsPointFor}
+use Rattle.tcel_cost.specs.Plans.{ArePoints, AreStmtPoints, AreBlockPoints, IsPointFor}
 use Rattle.tcel_cost.proofs.RunWalks.{RunWalks, StmtRunWalks, run_walk, stmt_run_walk, by_branch, stmt_counts}
 use Rattle.tcel_cost.specs.Steady.{AreInOrder, AreLater, IsSteady}
 use Rattle.tcel_cost.proofs.SteadyWalks.{AreUpTo, block_steady, stmt_steady, held_rises}

@@ -8,7 +8,7 @@ use Rattle.std.proofs.lemmas.List.Elements.{All-append, All-cons, All-filter, Al
 use Rattle.std.proofs.lemmas.List.Sums.{sum_by-cons}
 use Rattle.tcel_num.specs.Name.{IsName}
 use Rattle.tcel_core.specs.declared.var.Keep.{Keep}
-use Rattle.tcel_core.specs.Cells.{all_words, place}
+use Rattle.tcel_core.specs.Cells.{place}
 use Rattle.tcel_target.specs.Costs.{CostsInRange}
 use Rattle.tcel_target.specs.declared.costs.Costs.{Costs}
 use Rattle.tcel_image.specs.Spelling.{IsWord, InstrInRange, LineInRange, NamesInRange, StateInRange, StatesInRange, CodeInRange, TaskInRange, InRange, state_words}
@@ -27,6 +27,7 @@ use Rattle.tcel_tool.specs.declared.plain_tree.PlainExpr.TheVariants as exprs
 use Rattle.tcel_tool.specs.declared.plain_tree.Operand.{Operand}
 use Rattle.tcel_tool.specs.declared.plain_tree.Operand.TheVariants as operands
 use Rattle.tcel_code.specs.Code.{at, expr_code, whole_code}
+use Rattle.tcel_code.specs.Counters.{counters_of}
 use Rattle.tcel_code.specs.Layout.{image_of, image_task, state_of}
 use Rattle.tcel_tool.specs.PlainTree.{IsPlain, IsWritable, StmtIsPlain, StmtIsWritable, ExprIsPlain, ExprIsWritable, OperandIsPlain, OperandIsWritable, block_from, expr_of, index_of, is_kind, names_of, operand_of, set_of, task_of, var_of, variable_names, vars_of}
 use Rattle.tcel_tool.proofs.Places.{all_words-vars, below, names_of-most, place-vars, variables-length}
@@ -139,7 +140,7 @@ module _ (decls : List PlainDecl) (few : length decls ≤ 256) where
   code_in_range : (body : List PlainStmt) → length body ≤ 1000 → AllByRecursion (StmtIsPlain decls) body → All StmtIsWritable body → CodeInRange (whole_code (block_from 0 decls body) (vars_of decls))
   code_in_range body short plain fits =
       let straight = flat_map (lines_of decls) body in
-      let is = block_code-straight decls body 0 0 (all_words (vars_of decls)) in
+      let is = block_code-straight decls body 0 0 (counters_of (block_from 0 decls body) (vars_of decls)) in
       let ends = both 1 1 (at 0 Mark) (at 0 End) (one_line 0 Mark (omega arith) tt) (one_line 0 End (omega arith) tt) in
       let lines = both (4 * length body) 2 straight (at 0 Mark ++ at 0 End) (body_in_range body plain fits) ends in
       subst (λ (code : List Line). CodeInRange (code ++ (at 0 Mark ++ at 0 End))) (sym is)
