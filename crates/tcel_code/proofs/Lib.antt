@@ -27,3 +27,4 @@ pub mod WindowedExample
 pub mod InTime
 pub mod FormExamples
 pub mod SliceForms
+pub mod SpelledImages

@@ -15,7 +15,7 @@ use Rattle.tcel_code.proofs.ExprRuns.{Stands, stands_all, stands_back, stands_fr
 use Rattle.tcel_code.proofs.FitCode.{block_code_fits, line_fits, moved}
 
 -- the lines of the whole code
-form_fits : (form : Form) → IsCompilable form → IsFitTask (form_task form)
+pub form_fits : (form : Form) → IsCompilable form → IsFitTask (form_task form)
 form_fits form h =
     let image = form_task form in
     let code = image.code in

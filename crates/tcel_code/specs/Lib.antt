@@ -5,4 +5,5 @@ pub mod Counters
 pub mod Examples
 pub mod Layout
 pub mod PartsFit
+pub mod Spellable
 pub mod Theorem

@@ -1,6 +1,7 @@
 ghost use Rattle.tcel_code.specs.CodeCycles.{ExpressionsCostTheirCode};
 ghost use Rattle.tcel_code.specs.Compilable.{ImagesAreValid, WholeTasksAreCompilable};
 ghost use Rattle.tcel_code.specs.PartsFit.{SlicesMean};
+ghost use Rattle.tcel_code.specs.Spellable.{ImagesAreInRange};
 ghost use Rattle.tcel_code.specs.Theorem.{SetsMeetTheirSource, WholeSetsMeetTheirSource};
 
 /// The cycles that plans count for an expression are those of its code (docs/analysis.md).
@@ -25,6 +26,11 @@ pub fn whole_sets_meet_their_source()
 pub fn images_are_valid()
     ensures law { ImagesAreValid }
     ensures whole { WholeTasksAreCompilable }
+{}
+
+/// The image of a set that has no flaw has a spelling, where its names are names and its numbers fit (docs/formats.md).
+pub fn images_are_in_range()
+    ensures law { ImagesAreInRange }
 {}
 
 /// The parts of a checked task by its kept set mean its body, from the start of a frame with any state and any inputs, so
