@@ -81,6 +81,17 @@ each-append : (P : Due → Type 0) (a b : List Due) → EachDue P a → EachDue 
 each-append P [] b h g = g
 each-append P (due ∷ a) b h g = (h.0, each-append P a b h.1 g)
 
+length-dues : (frame release deadline : ℕ) (counts : List ℕ) (events : List Occurrence) → length counts ≡ length events → length (dues_of frame release deadline counts events) ≡ length events
+length-dues frame release deadline [] [] h = refl
+length-dues frame release deadline [] (e ∷ events) h = absurd (omega arith)
+length-dues frame release deadline (c ∷ counts) [] h = absurd (omega arith)
+length-dues frame release deadline (c ∷ counts) (e ∷ events) h = let rest = length-dues frame release deadline counts events (omega arith) in omega arith
+
+-- what stands behind dues
+behind_dues : (before : List Due) (due : Due) (after : List Due) → slice_get (before ++ due ∷ after) (length before) ≡ Some due
+behind_dues [] due after = refl
+behind_dues (d ∷ before) due after = behind_dues before due after
+
 promises-dues : (frame release deadline : ℕ) (counts : List ℕ) (events : List Occurrence) → length counts ≡ length events →
     map promise_of (dues_of frame release deadline counts events) ≡ map (event_promise frame release) (map (event_of deadline) events)
 promises-dues frame release deadline [] [] h = refl
@@ -93,21 +104,24 @@ abbrev pub Reaches : (total period f : ℕ) (service : ℕ → ℕ) → ℕ → 
 Reaches total period f service count bound = f * total + count ≤ service (f * period + bound)
 
 -- each event is due by its count, which is reached by its latest time where it is by the deadline and by the bounds of the blocks around the event
-pub events_due : (total period deadline f last : ℕ) (service : ℕ → ℕ) → last ≤ total → Reaches total period f service last deadline →
-    (counts : List ℕ) (events : List Occurrence) → AreUpTo last counts → AreBound (Reaches total period f service) events counts →
-    EachDue (IsDue total period service f) (dues_of f (f * period) deadline counts events)
-events_due total period deadline f last service within reached [] events upto bound = tt
-events_due total period deadline f last service within reached (c ∷ counts) [] upto bound = tt
-events_due total period deadline f last service within reached (c ∷ counts) (e ∷ events) upto bound =
+pub events_due : (Timed : Type 0) (total period deadline f last : ℕ) (service : ℕ → ℕ) → last ≤ total → (Timed → Reaches total period f service last deadline) →
+    (counts : List ℕ) (events : List Occurrence) → AreUpTo last counts → (Timed → AreBound (Reaches total period f service) events counts) →
+    EachDue (IsDue Timed total period service f) (dues_of f (f * period) deadline counts events)
+events_due Timed total period deadline f last service within reached [] events upto bound = tt
+events_due Timed total period deadline f last service within reached (c ∷ counts) [] upto bound = tt
+events_due Timed total period deadline f last service within reached (c ∷ counts) (e ∷ events) upto bound =
     let soon = upto.0 in
-    let by_deadline : Reaches total period f service c deadline = omega arith in
-    let by_latest = bound_latest (Reaches total period f service) c deadline e.around by_deadline bound.0 in
-    let due : IsDue total period service f (due_of f (f * period) deadline c e) = record {
+    let due : IsDue Timed total period service f (due_of f (f * period) deadline c e) = record {
       of_frame = refl;
       within = omega arith;
-      reached = λ l is. subst (λ n. f * total + c ≤ service n) (same_Some (f * period + latest deadline e.around) l is) by_latest;
+      reached =
+          λ timed l is.
+          let at_last = reached timed in
+          let by_deadline : Reaches total period f service c deadline = omega arith in
+          let by_latest = bound_latest (Reaches total period f service) c deadline e.around by_deadline (bound timed).0 in
+          subst (λ n. f * total + c ≤ service n) (same_Some (f * period + latest deadline e.around) l is) by_latest;
     } in
-    (due, events_due total period deadline f last service within reached counts events upto.1 bound.1)
+    (due, events_due Timed total period deadline f last service within reached counts events upto.1 (λ timed. (bound timed).1))
 
 -- without an event there is no due
 quiet_suit : (release floor : ℕ) (counts : List ℕ) (events : List Occurrence) → length counts ≡ length events → events ≡ [] → AllSuit release floor counts events []
@@ -133,10 +147,10 @@ begins_with form streams f = record { cells = start_cells form.parts.vars (state
 
 -- ---- a task in a form
 
-module _ (costs : Costs) (ranges : CostsInRange costs) (form : Form) (fits : PartsFit form) (plan : Plan) (is : IsPlan form costs plan) (service : ℕ → ℕ) (streams : List (List ℤ)) (long : length streams ≡ length form.task.inputs)
-    (mark_in_time : (f : ℕ) → f * plan.total + (is.first + costs.mark) ≤ service (f * form.task.period + form.task.deadline))
+module _ (Timed : Type 0) (costs : Costs) (ranges : CostsInRange costs) (form : Form) (fits : PartsFit form) (plan : Plan) (is : IsPlan form costs plan) (service : ℕ → ℕ) (streams : List (List ℤ)) (long : length streams ≡ length form.task.inputs)
+    (mark_in_time : Timed → (f : ℕ) → f * plan.total + (is.first + costs.mark) ≤ service (f * form.task.period + form.task.deadline))
     (events_in_time : (f end : ℕ) (counts : List ℕ) → RunWalks form.parts.first form.parts.vars costs (begins_with form streams f) costs.dispatch end counts →
-    EachDue (IsDue plan.total form.task.period service f)
+    EachDue (IsDue Timed plan.total form.task.period service f)
     (dues_of f (f * form.task.period) form.task.deadline counts (exec form.parts.first form.parts.vars (begins_with form streams f)).events)) where
   abbrev t : Task
   t = form.task
@@ -360,33 +374,47 @@ module _ (costs : Costs) (ranges : CostsInRange costs) (form : Form) (fits : Par
       ∙ ap (λ l. l ++ last) (promises-dues f (f * t.period) t.deadline (runs f).counts (first f).events (runs f).each)
       ∙ ap (λ (es : List Occurrence). map (event_promise f (f * t.period)) (map (event_of t.deadline) es) ++ last) (means f).events
 
-  each : (f : ℕ) → EachDue (IsDue plan.total t.period service f) (dues f)
+  longest_first : (f : ℕ) → (runs f).end ≤ is.first
+  longest_first f = is.first_total.greatest (runs f).end ((runs f).counts, run_walk form.parts.first vars costs (from f) costs.dispatch (runs f).end (runs f).counts (runs f).walk)
+
+  each : (f : ℕ) → EachDue (IsDue Timed plan.total t.period service f) (dues f)
   each f =
-      let P : Due → Type 0 = IsDue plan.total t.period service f in
-      let longest : (runs f).end ≤ is.first =
-      is.first_total.greatest (runs f).end ((runs f).counts, run_walk form.parts.first vars costs (from f) costs.dispatch (runs f).end (runs f).counts (runs f).walk) in
+      let P : Due → Type 0 = IsDue Timed plan.total t.period service f in
+      let longest = longest_first f in
       let longest_rest : (rest_runs f).end ≤ is.rest =
       is.rest_total.greatest (rest_runs f).end ((rest_runs f).counts, run_walk form.parts.rest vars costs (first f).memory 0 (rest_runs f).end (rest_runs f).counts (rest_runs f).walk) in
       let total = is.total in
-      let soon = mark_in_time f in
       let mark : P (mark_due f) = record {
         of_frame = refl;
         within = omega arith;
-        reached = λ l when_is. let when = same_Some (f * t.period + t.deadline) l when_is in subst (λ n. f * plan.total + ((runs f).end + costs.mark) ≤ service n) when (omega arith);
+        reached = λ timed l when_is. let soon = mark_in_time timed f in let when = same_Some (f * t.period + t.deadline) l when_is in subst (λ n. f * plan.total + ((runs f).end + costs.mark) ≤ service n) when (omega arith);
       } in
-      let end : P (end_due f) = record { of_frame = refl; within = omega arith; reached = λ l when_is. absurd (none-some l when_is) } in
+      let end : P (end_due f) = record { of_frame = refl; within = omega arith; reached = λ timed l when_is. absurd (none-some l when_is) } in
       each-append P (event_dues f) (mark_due f ∷ end_due f ∷ []) (events_in_time f (runs f).end (runs f).counts (runs f).walk) (mark, (end, tt))
 
+  -- the mark stands behind the events
+  mark_at : (f : ℕ) → slice_get (dues f) (length ((behavior_of t streams).frames f).events) ≡ Some (mark_due f)
+  mark_at f =
+      let as_many = length-map (source f).events (event_of t.deadline) ∙ sym (length-dues f (f * t.period) t.deadline (runs f).counts (first f).events (runs f).each ∙ ap length (means f).events) in
+      ap (slice_get (dues f)) as_many ∙ behind_dues (event_dues f) (mark_due f) (end_due f ∷ [])
+
   -- its frames on the machine
-  pub form_frames : Frames costs task streams (behavior_of t streams) plan.total service
+  pub form_frames : Frames Timed costs task streams (behavior_of t streams) plan.total service
   form_frames = record {
     start = start;
     dues = dues;
     frame = λ f. refl;
     ahead = ahead;
     made = made;
-    each = λ f. each_at (IsDue plan.total t.period service f) (dues f) (each f);
+    each = λ f. each_at (IsDue Timed plan.total t.period service f) (dues f) (each f);
+    mark = is.first + costs.mark;
+    marks = λ f. (mark_due f, mark_at f, (let h = longest_first f in omega arith));
   }
+
+  -- each has its mark by the prefix of the frame's point
+  pub form_mark : form_frames.mark ≡ is.first + costs.mark
+  unfolding form_frames
+  form_mark = refl
 
   -- the first of them starts as the machine does
   pub form_first : form_frames.start 0 ≡ start_task task

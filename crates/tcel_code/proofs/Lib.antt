@@ -28,3 +28,4 @@ pub mod InTime
 pub mod FormExamples
 pub mod SliceForms
 pub mod SpelledImages
+pub mod Abreast

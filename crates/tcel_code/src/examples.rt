@@ -1,11 +1,13 @@
 ghost use Rattle.std.specs.Prelude.{◌≡◌, [], ◌∷◌, map, All};
 ghost use Rattle.tcel_num.specs.Lateness.{IsNeverLate};
+ghost use Rattle.tcel_num.specs.Schedule.{served_counts};
 ghost use Rattle.tcel_core.specs.Scope.{TaskFits};
 ghost use Rattle.tcel_target.specs.Costs.{unit_costs};
 ghost use Rattle.tcel_image.specs.Machine.{trace};
 ghost use Rattle.tcel_cost.specs.Examples.{late_plans, overrunning, overrunning_plans, pair, pair_plans, sliced_counter, sliced_counter_plan, windowed_plan, windowed_task};
 ghost use Rattle.tcel_code.specs.Code.{frame_code};
 ghost use Rattle.tcel_code.specs.Counters.{counters_of};
+ghost use Rattle.tcel_code.specs.Domination.{counting};
 ghost use Rattle.tcel_code.specs.Examples.{loops_body, loops_code, loops_first, loops_rest, loops_vars, overrunning_streams, overrunning_trace, pair_streams, pair_trace, sliced_image, sliced_streams, sliced_trace};
 ghost use Rattle.tcel_code.specs.Layout.{image_of, layout};
 ghost use Rattle.tcel_code.specs.PartsFit.{PartsFit};
@@ -43,6 +45,12 @@ pub fn overrunning_example()
     ensures in_time { IsNeverLate overrunning_plans }
     ensures meets { RunsOfFormsMeet overrunning unit_costs overrunning_plans }
     ensures trace { trace (layout overrunning unit_costs) overrunning_streams 30 ≡ overrunning_trace }
+
+    // The ticks that the frames in progress have run: after 4 ticks the higher task has ended one, and after 11 the lower one.
+    ensures ran_at_3 { (counting (layout overrunning unit_costs) overrunning_streams 3).ran ≡ 3 ∷ 0 ∷ [] }
+    ensures ran_at_8 { (counting (layout overrunning unit_costs) overrunning_streams 8).ran ≡ 0 ∷ 4 ∷ [] }
+    ensures ran_at_11 { (counting (layout overrunning unit_costs) overrunning_streams 11).ran ≡ 0 ∷ 2 ∷ [] }
+    ensures served_at_11 { served_counts overrunning_plans 11 ≡ 4 ∷ 7 ∷ [] }
 {}
 
 /// The counters of loops that stand in different parts (docs/machine.md).

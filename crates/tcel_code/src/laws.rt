@@ -1,5 +1,6 @@
 ghost use Rattle.tcel_code.specs.CodeCycles.{ExpressionsCostTheirCode};
 ghost use Rattle.tcel_code.specs.Compilable.{ImagesAreValid, WholeTasksAreCompilable};
+ghost use Rattle.tcel_code.specs.Domination.{RunsKeepAbreast};
 ghost use Rattle.tcel_code.specs.PartsFit.{SlicesMean};
 ghost use Rattle.tcel_code.specs.Spellable.{ImagesAreInRange};
 ghost use Rattle.tcel_code.specs.Theorem.{SetsMeetTheirSource, WholeSetsMeetTheirSource};
@@ -19,6 +20,13 @@ pub fn sets_meet_their_source()
 /// So does every run of the image of a set of which no task is sliced: such a task's parts are its body and nothing.
 pub fn whole_sets_meet_their_source()
     ensures headline { WholeSetsMeetTheirSource }
+{}
+
+/// At every time of every run of such an image each task has made the first of its entries, in order, and its frames have run
+/// no fewer ticks than the demand schedule has served them: whether the demand fits or not (docs/architecture.md, "How the
+/// proof goes").
+pub fn runs_keep_abreast()
+    ensures law { RunsKeepAbreast }
 {}
 
 /// The image of a set has no flaw, where its names differ, its expressions fit the stack and its ports are there
