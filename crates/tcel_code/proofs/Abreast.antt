@@ -22,4 +22,4 @@ behavior_at (f ∷ forms) (s ∷ streams) (suc i) form e = behavior_at forms str
 pub runs_keep_abreast : RunsKeepAbreast
 runs_keep_abreast = λ forms costs plans streams ticks all ranges are long number form plan r ran is_form is_plan is_r is_ran.
     set_abreast ⊥ costs ranges plans streams forms (all_serve ⊥ costs ranges plans streams (λ never. absurd never) 0 forms plans streams refl refl (recursion_from_All PartsFit forms all) are long) ticks
-    number (behavior_of form.task (slice_index_or streams number [])) plan r ran (behavior_at forms streams number form is_form) is_plan is_r is_ran
+    number form (behavior_of form.task (slice_index_or streams number [])) plan r ran is_form (behavior_at forms streams number form is_form) is_plan is_r is_ran

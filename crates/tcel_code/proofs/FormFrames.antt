@@ -6,14 +6,14 @@ use Rattle.std.proofs.Math.ListN.{get_or-map}
 use Rattle.std.proofs.lemmas.List.{append_assoc, length-append, length-map, length-replicate, map-append, replicate-append-replicate, take-append-le}
 use Rattle.std.proofs.lemmas.Option.{same_Some, none-some}
 use Rattle.tcel_num.specs.Entry.{end as end_entry}
-use Rattle.tcel_num.specs.Plan.{Plan}
+use Rattle.tcel_num.specs.Plan.{Plan, PointName}
 use Rattle.tcel_core.specs.declared.var.Var.{Var}
 use Rattle.tcel_core.specs.Cells.{all_words}
 use Rattle.tcel_core.specs.Contents.{loops}
 use Rattle.tcel_core.specs.Frames.{state_words, state_of, declared_state, start_cells, start_of}
 use Rattle.tcel_core.specs.Language.{Task}
 use Rattle.tcel_core.specs.Meaning.{exec}
-use Rattle.tcel_core.specs.Outcome.{Memory, Occurrence, Outcome}
+use Rattle.tcel_core.specs.Outcome.{EnclosingBlock, Memory, Occurrence, Outcome}
 use Rattle.tcel_core.specs.Promises.{behavior_of, event_promise, first_promise, end_promise, frame_promises}
 use Rattle.tcel_core.specs.Windows.{event_of, latest}
 use Rattle.tcel_core.proofs.Bodies.{block_words, block_remains}
@@ -31,7 +31,8 @@ use Rattle.tcel_image.specs.Machine.{Running, effect, start_task}
 use Rattle.tcel_image.specs.Spelling.{state_words as image_words}
 use Rattle.tcel_cost.specs.Forms.{Form}
 use Rattle.tcel_cost.specs.Plans.{IsPlan}
-use Rattle.tcel_cost.proofs.BoundEvents.{AreBound, bound_latest}
+use Rattle.tcel_cost.proofs.BoundEvents.{AreBound, IsBound, block_bound, bound_latest, each_point}
+use Rattle.tcel_code.specs.Domination.{AreBoundBy, HasPointBy, events_of}
 use Rattle.tcel_cost.proofs.RunWalks.{RunWalks, run_walk}
 use Rattle.tcel_cost.proofs.SteadyWalks.{AreUpTo}
 use Rattle.tcel_code.specs.Code.{at, block_code}
@@ -105,7 +106,7 @@ Reaches total period f service count bound = f * total + count ≤ service (f * 
 
 -- each event is due by its count, which is reached by its latest time where it is by the deadline and by the bounds of the blocks around the event
 pub events_due : (Timed : Type 0) (total period deadline f last : ℕ) (service : ℕ → ℕ) → last ≤ total → (Timed → Reaches total period f service last deadline) →
-    (counts : List ℕ) (events : List Occurrence) → AreUpTo last counts → (Timed → AreBound (Reaches total period f service) events counts) →
+    (counts : List ℕ) (events : List Occurrence) → AreUpTo last counts → (Timed → AreBound (λ name. Reaches total period f service) events counts) →
     EachDue (IsDue Timed total period service f) (dues_of f (f * period) deadline counts events)
 events_due Timed total period deadline f last service within reached [] events upto bound = tt
 events_due Timed total period deadline f last service within reached (c ∷ counts) [] upto bound = tt
@@ -415,6 +416,34 @@ module _ (Timed : Type 0) (costs : Costs) (ranges : CostsInRange costs) (form : 
   pub form_mark : form_frames.mark ≡ is.first + costs.mark
   unfolding form_frames
   form_mark = refl
+
+  -- ---- the points that bind its events
+
+  abbrev Named : PointName → ℕ → ℕ → Type 0
+  Named name count bound = HasPointBy plan.points (λ prefix. count ≤ prefix) name bound
+
+  named : (f : ℕ) → AreBound Named (first f).events (runs f).counts
+  named f =
+      block_bound Named
+      (λ name count later bound le h. record { number = h.number; point = h.point; there = h.there; named = h.named; bounded = h.bounded; so = let soon = h.so in omega arith })
+      form.parts.first vars fits.first fits.untimed costs (from f) costs.dispatch costs.dispatch (runs f).end (runs f).counts is.windows (omega arith) is.in_text
+      (each_point Named is.windows (λ k point e. record { number = suc k; point = point; there = ap (λ l. slice_get l (suc k)) is.points ∙ e; named = refl; bounded = refl; so = omega arith })) (runs f).walk
+
+  as_bound : (count : ℕ) (around : List EnclosingBlock) → IsBound Named count around → AreBoundBy plan.points (λ prefix. count ≤ prefix) around
+  as_bound count [] bound = tt
+  as_bound count (b ∷ around) bound = (bound.0, bound.1, as_bound count around bound.2)
+
+  due_at : (f : ℕ) (counts : List ℕ) (events : List Occurrence) → AreBound Named events counts → (k : ℕ) (e : Occurrence) → slice_get events k ≡ Some e →
+      (due : Due) × (slice_get (dues_of f (f * t.period) t.deadline counts events ++ (mark_due f ∷ end_due f ∷ [])) k ≡ Some due) × AreBoundBy plan.points (λ prefix. due.by ≤ prefix) e.around
+  due_at f counts [] bound k e here = absurd (none-some e here)
+  due_at f [] (x ∷ events) bound k e here = absurd bound
+  due_at f (c ∷ counts) (x ∷ events) bound zero e here =
+      (due_of f (f * t.period) t.deadline c x, refl, subst (λ (y : Occurrence). AreBoundBy plan.points (λ prefix. c ≤ prefix) y.around) (same_Some x e here) (as_bound c x.around bound.0))
+  due_at f (c ∷ counts) (x ∷ events) bound (suc k) e here = due_at f counts events bound.1 k e here
+
+  pub form_binds : (f k : ℕ) (e : Occurrence) → slice_get (events_of t streams f) k ≡ Some e → (due : Due) × (slice_get (form_frames.dues f) k ≡ Some due) × AreBoundBy plan.points (λ prefix. due.by ≤ prefix) e.around
+  unfolding form_frames
+  form_binds f k e here = due_at f (runs f).counts (first f).events (named f) k e (ap (λ l. slice_get l k) (means f).events ∙ here)
 
   -- the first of them starts as the machine does
   pub form_first : form_frames.start 0 ≡ start_task task

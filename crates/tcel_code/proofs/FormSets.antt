@@ -1,7 +1,7 @@
 -- Every trace of the image of a set meets the set.
 use Rattle.std.proofs.Common.{◌≡◌, ℕ, zero, suc, ◌+◌, ◌*◌, ◌≤◌, List, [], ◌∷◌, length, map, drop, Some, refl, sym, ap, ◌∙◌, subst, arith, inl, inr}
 use Rattle.std.specs.Prelude.{slice_get, slice_index_or}
-use Rattle.std.proofs.lemmas.Option.{same_Some}
+use Rattle.std.proofs.lemmas.Option.{none-some, same_Some}
 use Rattle.std.proofs.lemmas.Bool.{cases_lt}
 use Rattle.std.proofs.lemmas.List.{drop_more, drop_all, get_or_past}
 use Rattle.tcel_num.specs.Plan.{Plan, Point}
@@ -10,13 +10,13 @@ use Rattle.tcel_core.specs.Language.{Task}
 use Rattle.tcel_core.specs.Meaning.{exec}
 use Rattle.tcel_core.specs.Meets.{Meets, Shows, behaviors_of, entries_of}
 use Rattle.tcel_core.specs.Promises.{Behavior, behavior_of as task_behavior}
-use Rattle.tcel_core.specs.Outcome.{Memory}
+use Rattle.tcel_core.specs.Outcome.{Memory, Occurrence}
 use Rattle.tcel_target.specs.declared.costs.Costs.{Costs}
 use Rattle.tcel_target.specs.Costs.{CostsInRange}
 use Rattle.tcel_image.specs.declared.image.Image.{Image}
 use Rattle.tcel_image.specs.declared.image.ImageTask.{ImageTask}
 use Rattle.tcel_image.specs.Machine.{Running, Streams, trace}
-use Rattle.tcel_code.specs.Domination.{IsAbreast, counting}
+use Rattle.tcel_code.specs.Domination.{IsAbreast, counting, events_of}
 use Rattle.tcel_cost.specs.Forms.{Form}
 use Rattle.std.specs.List.{AllByRecursion, AllZip}
 use Rattle.tcel_cost.specs.Plans.{ArePlans, IsPlan}
@@ -28,8 +28,8 @@ use Rattle.tcel_cost.proofs.RunWalks.{RunWalks, run_walk}
 use Rattle.tcel_cost.proofs.BoundEvents.{EachPoint, block_bound}
 use Rattle.tcel_code.proofs.Progress.{IsDue}
 use Rattle.tcel_code.proofs.SetMeets.{all_abreast, image_of_sites, shows}
-use Rattle.tcel_code.proofs.SetRuns.{Site, Numbered, task_of, plan_of, behavior_of}
-use Rattle.tcel_code.proofs.FormFrames.{EachDue, Reaches, begins_with, dues_of, events_due, form_frames, form_first, form_mark}
+use Rattle.tcel_code.proofs.SetRuns.{Site, Numbered, task_of, plan_of, behavior_of, events_in}
+use Rattle.tcel_code.proofs.FormFrames.{EachDue, Reaches, begins_with, dues_of, events_due, form_binds, form_frames, form_first, form_mark}
 
 -- what stands at a place, and behind it
 record StandsAt {X : Type 0} (xs : List X) (n : ℕ) (d x : X) (rest : List X) : Type 0 where
@@ -55,7 +55,7 @@ module _ (Timed : Type 0) (costs : Costs) (ranges : CostsInRange costs) (plans :
   pub record Serves (n : ℕ) (form : Form) (plan : Plan) : Type 0 where
     pub fits : PartsFit form
     pub is : IsPlan form costs plan
-    pub in_time : Timed → (f : ℕ) → EachPoint (Reaches plan.total form.task.period f (λ time. served plans time n)) plan.points
+    pub in_time : Timed → (f : ℕ) → EachPoint (λ name. Reaches plan.total form.task.period f (λ time. served plans time n)) plan.points
     pub long : length (slice_index_or streams n []) ≡ length form.task.inputs
 
   -- each of the forms, from a number on
@@ -65,7 +65,7 @@ module _ (Timed : Type 0) (costs : Costs) (ranges : CostsInRange costs) (plans :
   AllServe n _ _ = ⊥
 
   -- each form of a set serves so, where each point of each plan is reached in time
-  module _ (in_time : Timed → (n : ℕ) (form : Form) (plan : Plan) → slice_get plans n ≡ Some plan → IsPlan form costs plan → (f : ℕ) → EachPoint (Reaches plan.total form.task.period f (λ time. served plans time n)) plan.points) where
+  module _ (in_time : Timed → (n : ℕ) (form : Form) (plan : Plan) → slice_get plans n ≡ Some plan → IsPlan form costs plan → (f : ℕ) → EachPoint (λ name. Reaches plan.total form.task.period f (λ time. served plans time n)) plan.points) where
     pub all_serve : (n : ℕ) (forms : List Form) (rest : List Plan) (given : Streams) → rest ≡ drop n plans → given ≡ drop n streams → AllByRecursion PartsFit forms → ArePlans forms costs rest → AllZip HasStreams (map source_of forms) given → AllServe n forms rest
     all_serve n [] [] given at streams_at all are long = tt
     all_serve n [] (plan ∷ rest) given at streams_at all are long = absurd cc
@@ -86,8 +86,8 @@ module _ (Timed : Type 0) (costs : Costs) (ranges : CostsInRange costs) (plans :
 
     -- the frame's point, and those of its blocks
     points_in_time : Timed → (f : ℕ) →
-        Reaches plan.total form.task.period f service (s.is.first + costs.mark) form.task.deadline × EachPoint (Reaches plan.total form.task.period f service) s.is.windows
-    points_in_time timed f = subst (EachPoint (Reaches plan.total form.task.period f service)) s.is.points (s.in_time timed f)
+        Reaches plan.total form.task.period f service (s.is.first + costs.mark) form.task.deadline × EachPoint (λ name. Reaches plan.total form.task.period f service) s.is.windows
+    points_in_time timed f = subst (EachPoint (λ name. Reaches plan.total form.task.period f service)) s.is.points (s.in_time timed f)
 
     mark_in_time : Timed → (f : ℕ) → f * plan.total + (s.is.first + costs.mark) ≤ service (f * form.task.period + form.task.deadline)
     mark_in_time timed f = (points_in_time timed f).0
@@ -105,7 +105,7 @@ module _ (Timed : Type 0) (costs : Costs) (ranges : CostsInRange costs) (plans :
         events_due Timed plan.total form.task.period form.task.deadline f (s.is.first + costs.mark) service (omega arith) (λ timed. mark_in_time timed f) counts (exec form.parts.first form.parts.vars (begins f)).events
         (upto_later end (s.is.first + costs.mark) counts (omega arith) by_end)
         (λ timed.
-        block_bound reaches (λ count later bound le h. omega arith) form.parts.first form.parts.vars s.fits.first s.fits.untimed costs (begins f) costs.dispatch costs.dispatch end counts s.is.windows (omega arith)
+        block_bound (λ name. reaches) (λ name count later bound le h. omega arith) form.parts.first form.parts.vars s.fits.first s.fits.untimed costs (begins f) costs.dispatch costs.dispatch end counts s.is.windows (omega arith)
         s.is.in_text (points_in_time timed f).1 walk)
 
     site_of : Site Timed costs plans streams
@@ -114,6 +114,7 @@ module _ (Timed : Type 0) (costs : Costs) (ranges : CostsInRange costs) (plans :
       task = form_task form;
       plan = plan;
       behavior = task_behavior form.task (slice_index_or streams n []);
+      events = events_of form.task (slice_index_or streams n []);
       period = s.is.period;
       positive = s.fits.period;
       frames = form_frames Timed costs ranges form s.fits plan s.is service (slice_index_or streams n []) s.long mark_in_time events_in_time;
@@ -123,7 +124,22 @@ module _ (Timed : Type 0) (costs : Costs) (ranges : CostsInRange costs) (plans :
           let own = same_Some _ point (sym (ap (λ l. slice_get l 0) s.is.points) ∙ e) in
           let prefix = ap (λ (p : Point). p.prefix) own in
           omega (arith, form_mark Timed costs ranges form s.fits plan s.is service (slice_index_or streams n []) s.long mark_in_time events_in_time);
+      binds = form_binds Timed costs ranges form s.fits plan s.is service (slice_index_or streams n []) s.long mark_in_time events_in_time;
     }
+
+  -- the events of the forms from a number on
+  abbrev all_events : ℕ → List Form → List (ℕ → List Occurrence)
+  all_events n [] = []
+  all_events n (form ∷ forms) = events_of form.task (slice_index_or streams n []) ∷ all_events (n + 1) forms
+
+  events_at : (n : ℕ) (forms : List Form) (i : ℕ) (form : Form) → slice_get forms i ≡ Some form → slice_get (all_events n forms) i ≡ Some (events_of form.task (slice_index_or streams (n + i) []))
+  events_at n [] i form e = absurd (none-some form e)
+  events_at n (f ∷ forms) zero form e =
+      let at : n ≡ n + 0 = omega arith in
+      ap (λ (g : Form). Some (events_of g.task (slice_index_or streams n []))) (same_Some f form e) ∙ ap (λ k. Some (events_of form.task (slice_index_or streams k []))) at
+  events_at n (f ∷ forms) (suc i) form e =
+      let at : n + 1 + i ≡ n + suc i = omega arith in
+      events_at (n + 1) forms i form e ∙ ap (λ k. Some (events_of form.task (slice_index_or streams k []))) at
 
   -- the forms from a number on, as sites
   record Sites (n : ℕ) (forms : List Form) (rest : List Plan) : Type 0 where
@@ -132,6 +148,7 @@ module _ (Timed : Type 0) (costs : Costs) (ranges : CostsInRange costs) (plans :
     of_tasks : map (task_of Timed costs plans streams) sites ≡ map form_task forms
     of_plans : map (plan_of Timed costs plans streams) sites ≡ rest
     of_behaviors : map (behavior_of Timed costs plans streams) sites ≡ behaviors_of (map source_of forms) (drop n streams)
+    of_events : map (events_in Timed costs plans streams) sites ≡ all_events n forms
 
   first_behavior : (n : ℕ) (t : Task) (tasks : List Task) → behaviors_of (t ∷ tasks) (drop n streams) ≡ task_behavior t (slice_index_or streams n []) ∷ behaviors_of tasks (drop (n + 1) streams)
   first_behavior n t tasks =
@@ -145,7 +162,7 @@ module _ (Timed : Type 0) (costs : Costs) (ranges : CostsInRange costs) (plans :
 
   sites_of : (n : ℕ) (forms : List Form) (rest : List Plan) → AllServe n forms rest → Sites n forms rest
   unfolding site_of
-  sites_of n [] [] all = record { sites = []; numbered = tt; of_tasks = refl; of_plans = refl; of_behaviors = refl }
+  sites_of n [] [] all = record { sites = []; numbered = tt; of_tasks = refl; of_plans = refl; of_behaviors = refl; of_events = refl }
   sites_of n [] (plan ∷ rest) all = absurd all
   sites_of n (form ∷ forms) [] all = absurd all
   sites_of n (form ∷ forms) (plan ∷ rest) all =
@@ -155,6 +172,7 @@ module _ (Timed : Type 0) (costs : Costs) (ranges : CostsInRange costs) (plans :
         of_tasks = ap (λ l. form_task form ∷ l) others.of_tasks;
         of_plans = ap (λ l. plan ∷ l) others.of_plans;
         of_behaviors = ap (λ l. task_behavior form.task (slice_index_or streams n []) ∷ l) others.of_behaviors ∙ sym (first_behavior n form.task (map source_of forms));
+        of_events = ap (λ l. events_of form.task (slice_index_or streams n []) ∷ l) others.of_events;
       }
 
   module _ (forms : List Form) (all : AllServe 0 forms plans) (ticks : ℕ) where
@@ -169,13 +187,16 @@ module _ (Timed : Type 0) (costs : Costs) (ranges : CostsInRange costs) (plans :
         (subst (λ bs. Shows bs plans ticks (trace (image_of_sites Timed costs plans streams found.sites) streams ticks)) found.of_behaviors shown)
 
     -- each task is abreast of the demand schedule
-    pub set_abreast : (i : ℕ) (b : Behavior) (plan : Plan) (r : Running) (ran : ℕ) → slice_get (behaviors_of (map source_of forms) streams) i ≡ Some b → slice_get plans i ≡ Some plan →
+    pub set_abreast : (i : ℕ) (form : Form) (b : Behavior) (plan : Plan) (r : Running) (ran : ℕ) → slice_get forms i ≡ Some form → slice_get (behaviors_of (map source_of forms) streams) i ≡ Some b → slice_get plans i ≡ Some plan →
         slice_get (counting (layout forms costs) streams ticks).machine.tasks i ≡ Some r → slice_get (counting (layout forms costs) streams ticks).ran i ≡ Some ran →
-        IsAbreast plans plan b ticks i r ran (entries_of i (trace (layout forms costs) streams ticks))
-    set_abreast i b plan r ran e f =
+        IsAbreast plans plan b (events_of form.task (slice_index_or streams i [])) ticks i r ran (entries_of i (trace (layout forms costs) streams ticks))
+    set_abreast i form b plan r ran is_form e f =
+        let at : 0 + i ≡ i = omega arith in
+        let events = events_of form.task (slice_index_or streams i []) in
+        let its : slice_get (all_events 0 forms) i ≡ Some events = events_at 0 forms i form is_form ∙ ap (λ k. Some (events_of form.task (slice_index_or streams k []))) at in
         let P : List ImageTask → Type 0 =
         λ its.
         let image : Image = record { costs = costs; tasks = its } in
-        slice_get (counting image streams ticks).machine.tasks i ≡ Some r → slice_get (counting image streams ticks).ran i ≡ Some ran → IsAbreast plans plan b ticks i r ran (entries_of i (trace image streams ticks)) in
+        slice_get (counting image streams ticks).machine.tasks i ≡ Some r → slice_get (counting image streams ticks).ran i ≡ Some ran → IsAbreast plans plan b events ticks i r ran (entries_of i (trace image streams ticks)) in
         subst P found.of_tasks
-        (all_abreast Timed costs plans streams found.sites found.numbered (sym found.of_plans) ticks i b plan r ran (ap (λ l. slice_get l i) found.of_behaviors ∙ e) (ap (λ l. slice_get l i) found.of_plans ∙ f))
+        (all_abreast Timed costs plans streams found.sites found.numbered (sym found.of_plans) ticks i b plan events r ran (ap (λ l. slice_get l i) found.of_behaviors ∙ e) f (ap (λ l. slice_get l i) found.of_events ∙ its))

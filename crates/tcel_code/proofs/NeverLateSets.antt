@@ -1,11 +1,11 @@
 -- Sets whose demand fits, and of whose plans no point is ever late.
-use Rattle.std.proofs.Common.{◌≡◌, ℕ, suc, ◌+◌, ◌*◌, ◌≤◌, List, [], ◌∷◌, map, refl, sym, ap, subst, arith, Some}
+use Rattle.std.proofs.Common.{◌≡◌, ℕ, ◌+◌, ◌*◌, ◌≤◌, List, [], ◌∷◌, map, refl, sym, ap, subst, arith, Some}
 use Rattle.std.specs.Prelude.{slice_get}
 use Rattle.std.specs.List.{AllZip}
 use Rattle.std.proofs.lemmas.List.Elements.{All-map, All-weaker, recursion_from_All}
 use Rattle.tcel_num.specs.Hyperperiod.{IsHyperperiod, demand}
 use Rattle.tcel_num.specs.Lateness.{IsNeverLate}
-use Rattle.tcel_num.specs.Plan.{Plan, Point}
+use Rattle.tcel_num.specs.Plan.{Plan}
 use Rattle.tcel_num.specs.Schedule.{served}
 use Rattle.tcel_demand.proofs.ReachedInTime.{reached_in_time}
 use Rattle.tcel_demand.proofs.ServedAtLast.{served_at_last}
@@ -21,22 +21,17 @@ use Rattle.tcel_cost.specs.Plans.{IsPlan}
 use Rattle.tcel_code.specs.Layout.{layout}
 use Rattle.tcel_code.specs.PartsFit.{PartsFit}
 use Rattle.tcel_code.specs.Theorem.{HasStreams, SetsMeetTheirSource, WholeSetsMeetTheirSource}
-use Rattle.tcel_cost.proofs.BoundEvents.{EachPoint}
+use Rattle.tcel_cost.proofs.BoundEvents.{EachPoint, each_point}
 use Rattle.tcel_code.proofs.Counters.{own_counters}
 use Rattle.tcel_code.proofs.FormFrames.{Reaches}
 use Rattle.tcel_code.proofs.FormSets.{all_serve, set_meets, source_of}
 
--- what is so of the point at each place is so of each point
-each_point : (P : ℕ → ℕ → Type 0) (points : List Point) → ((k : ℕ) (point : Point) → slice_get points k ≡ Some point → P point.prefix point.bound) → EachPoint P points
-each_point P [] at = tt
-each_point P (p ∷ points) at = (at 0 p refl, each_point P points (λ k point e. at (suc k) point e))
-
 module _ (costs : Costs) (ranges : CostsInRange costs) (plans : List Plan) (never : IsNeverLate plans) (hyper : ℕ) (period : IsHyperperiod plans hyper) (fits : demand plans hyper ≤ hyper) where
   -- each point is reached by its bound
-  in_time : Unit {0} → (n : ℕ) (form : Form) (plan : Plan) → slice_get plans n ≡ Some plan → IsPlan form costs plan → (f : ℕ) → EachPoint (Reaches plan.total form.task.period f (λ time. served plans time n)) plan.points
+  in_time : Unit {0} → (n : ℕ) (form : Form) (plan : Plan) → slice_get plans n ≡ Some plan → IsPlan form costs plan → (f : ℕ) → EachPoint (λ name. Reaches plan.total form.task.period f (λ time. served plans time n)) plan.points
   in_time timed n form plan of_plan is f =
-      subst (λ p. EachPoint (Reaches plan.total p f (λ time. served plans time n)) plan.points) is.period
-      (each_point (Reaches plan.total plan.period f (λ time. served plans time n)) plan.points
+      subst (λ p. EachPoint (λ name. Reaches plan.total p f (λ time. served plans time n)) plan.points) is.period
+      (each_point (λ name. Reaches plan.total plan.period f (λ time. served plans time n)) plan.points
       (λ k point of_point.
       let mark = (ranges keys.Mark).0 in
       let total = is.total in

@@ -2,7 +2,9 @@
 use Rattle.std.proofs.Common.{◌≡◌, ℕ, zero, suc, ◌+◌, ◌*◌, ◌<◌, ◌≤◌, List, [], ◌∷◌, ◌++◌, length, map, refl, sym, ap, ◌∙◌, subst, arith, append_assoc, append-nil, Some}
 use Rattle.std.specs.Prelude.{slice_get, slice_index, slice_index_or, option_to_list, All}
 use Rattle.std.proofs.lemmas.List.{length-map}
-use Rattle.std.proofs.lemmas.Option.{same_Some, none-some}
+use Rattle.std.specs.Option.{option_map}
+use Rattle.std.proofs.lemmas.Option.{same_Some, none-some, slice_get-map}
+use Rattle.tcel_core.specs.Outcome.{Occurrence}
 use Rattle.tcel_num.specs.Entry.{Entry}
 use Rattle.tcel_num.specs.Plan.{Plan}
 use Rattle.tcel_num.specs.Schedule.{serve_highest, served_counts, served}
@@ -14,9 +16,9 @@ use Rattle.tcel_image.specs.declared.image.Image.{Image}
 use Rattle.tcel_image.specs.Machine.{Streams, Running, tick, entries, start, start_task, trace}
 use Rattle.tcel_code.specs.Domination.{Counting, IsAbreast, count_on, counting, counting_from}
 use Rattle.tcel_code.proofs.Progress.{Progress, begins}
-use Rattle.tcel_code.proofs.SetRuns.{Site, Numbered, EachProgress, AreServed, ProgressAt, task_of, plan_of, behavior_of, served_tick}
+use Rattle.tcel_code.proofs.SetRuns.{Site, Numbered, EachProgress, AreServed, ProgressAt, task_of, plan_of, behavior_of, events_in, served_tick}
 use Rattle.tcel_image.proofs.Traces.{trace_rises, trace_known}
-use Rattle.tcel_code.proofs.TaskMeets.{abreast, ended, keeps}
+use Rattle.tcel_code.proofs.TaskMeets.{abreast, ended, keeps, map_got}
 
 -- ---- a set
 
@@ -90,32 +92,24 @@ module _ (Timed : Type 0) (costs : Costs) (plans : List Plan) (streams : Streams
         let e : (counting image streams ticks).machine.now ≡ ticks = time_on ticks begin ∙ omega arith in
         subst (λ n. EachProgress Timed costs plans streams sites n (served_counts plans n) (counting image streams ticks).ran (counting image streams ticks).machine.tasks (trace image streams ticks)) e (run_keeps ticks begin [] begun)
 
-  abbrev PlanAt : List (Site Timed costs plans streams) → ℕ → Plan → Type 0
-  PlanAt sites i plan = slice_get (map (plan_of Timed costs plans streams) sites) i ≡ Some plan
-
-  -- what holds of each task's progress holds of the task with this number
-  found : (P : ℕ → Behavior → Plan → Running → ℕ → Type 0) (now : ℕ) (past : List Entry) →
-      ((site : Site Timed costs plans streams) (count ran : ℕ) (r : Running) → count ≡ served plans now site.number → ProgressAt Timed costs plans streams site now count ran r past → P site.number site.behavior site.plan r ran) →
+  -- what holds of each task's progress holds of the task at this place
+  found : (P : Site Timed costs plans streams → Running → ℕ → Type 0) (now : ℕ) (past : List Entry) →
+      ((site : Site Timed costs plans streams) (count ran : ℕ) (r : Running) → count ≡ served plans now site.number → ProgressAt Timed costs plans streams site now count ran r past → P site r ran) →
       (sites : List (Site Timed costs plans streams)) (n : ℕ) (counts ran : List ℕ) (rs : List Running) → Numbered Timed costs plans streams n sites → AreServed Timed costs plans streams sites now counts →
-      EachProgress Timed costs plans streams sites now counts ran rs past → (i : ℕ) (b : Behavior) (plan : Plan) → slice_get (map (behavior_of Timed costs plans streams) sites) i ≡ Some b → PlanAt sites i plan →
-      (r : Running) × (m : ℕ) × (slice_get rs i ≡ Some r) × (slice_get ran i ≡ Some m) × P (n + i) b plan r m
-  found P now past holds [] n counts ran rs numbered are p i b plan e f = absurd (none-some b e)
-  found P now past holds (site ∷ sites) n [] ran rs numbered are p i b plan e f = absurd are
-  found P now past holds (site ∷ sites) n (c ∷ counts) [] rs numbered are p i b plan e f = absurd p
-  found P now past holds (site ∷ sites) n (c ∷ counts) (m ∷ ran) [] numbered are p i b plan e f = absurd p
-  found P now past holds (site ∷ sites) n (c ∷ counts) (m ∷ ran) (r ∷ rs) numbered are p zero b plan e f =
-      let at : site.number ≡ n + 0 = omega (arith, numbered.0) in
-      (r, m, refl, refl, subst (λ k. P k b plan r m) at (subst (λ q. P site.number q plan r m) (same_Some _ b e) (subst (λ q. P site.number site.behavior q r m) (same_Some _ plan f) (holds site c m r are.0 p.0))))
-  found P now past holds (site ∷ sites) n (c ∷ counts) (m ∷ ran) (r ∷ rs) numbered are p (suc i) b plan e f =
+      EachProgress Timed costs plans streams sites now counts ran rs past → (i : ℕ) (site : Site Timed costs plans streams) → slice_get sites i ≡ Some site →
+      (r : Running) × (m : ℕ) × (slice_get rs i ≡ Some r) × (slice_get ran i ≡ Some m) × P site r m × (site.number ≡ n + i)
+  found P now past holds [] n counts ran rs numbered are p i site e = absurd (none-some site e)
+  found P now past holds (s ∷ sites) n [] ran rs numbered are p i site e = absurd are
+  found P now past holds (s ∷ sites) n (c ∷ counts) [] rs numbered are p i site e = absurd p
+  found P now past holds (s ∷ sites) n (c ∷ counts) (m ∷ ran) [] numbered are p i site e = absurd p
+  found P now past holds (s ∷ sites) n (c ∷ counts) (m ∷ ran) (r ∷ rs) numbered are p zero site e =
+      let same = same_Some s site e in
+      let at : s.number ≡ n + 0 = omega (arith, numbered.0) in
+      (r, m, refl, refl, subst (λ (q : Site Timed costs plans streams). P q r m) same (holds s c m r are.0 p.0), subst (λ (q : Site Timed costs plans streams). q.number ≡ n + 0) same at)
+  found P now past holds (s ∷ sites) n (c ∷ counts) (m ∷ ran) (r ∷ rs) numbered are p (suc i) site e =
       let at : n + 1 + i ≡ n + suc i = omega arith in
-      let there = found P now past holds sites (n + 1) counts ran rs numbered.1 are.1 p.1 i b plan e f in
-      (there.0, there.1, there.2, there.3, subst (λ k. P k b plan there.0 there.1) at there.4)
-
-  -- each task has a plan
-  has_plan : (sites : List (Site Timed costs plans streams)) (i : ℕ) (b : Behavior) → slice_get (map (behavior_of Timed costs plans streams) sites) i ≡ Some b → (plan : Plan) × PlanAt sites i plan
-  has_plan [] i b e = absurd (none-some b e)
-  has_plan (site ∷ sites) zero b e = (site.plan, refl)
-  has_plan (site ∷ sites) (suc i) b e = has_plan sites i b e
+      let there = found P now past holds sites (n + 1) counts ran rs numbered.1 are.1 p.1 i site e in
+      (there.0, there.1, there.2, there.3, there.4, there.5 ∙ at)
 
   module _ (sites : List (Site Timed costs plans streams)) (numbered : Numbered Timed costs plans streams 0 sites) (same : plans ≡ map (plan_of Timed costs plans streams) sites) (ticks : ℕ) where
     abbrev its_image : Image
@@ -127,14 +121,19 @@ module _ (Timed : Type 0) (costs : Costs) (plans : List Plan) (streams : Streams
     abbrev now_counting : Counting
     now_counting = counting its_image streams ticks
 
-    at_task : (P : ℕ → Behavior → Plan → Running → ℕ → Type 0) →
-        ((site : Site Timed costs plans streams) (count ran : ℕ) (r : Running) → count ≡ served plans ticks site.number → ProgressAt Timed costs plans streams site ticks count ran r past → P site.number site.behavior site.plan r ran) →
-        (i : ℕ) (b : Behavior) (plan : Plan) → slice_get (map (behavior_of Timed costs plans streams) sites) i ≡ Some b → PlanAt sites i plan →
-        (r : Running) × (m : ℕ) × (slice_get now_counting.machine.tasks i ≡ Some r) × (slice_get now_counting.ran i ≡ Some m) × P i b plan r m
-    at_task P holds i b plan e f =
+    at_task : (P : Site Timed costs plans streams → Running → ℕ → Type 0) →
+        ((site : Site Timed costs plans streams) (count ran : ℕ) (r : Running) → count ≡ served plans ticks site.number → ProgressAt Timed costs plans streams site ticks count ran r past → P site r ran) →
+        (i : ℕ) (site : Site Timed costs plans streams) → slice_get sites i ≡ Some site →
+        (r : Running) × (m : ℕ) × (slice_get now_counting.machine.tasks i ≡ Some r) × (slice_get now_counting.ran i ≡ Some m) × P site r m × (site.number ≡ i)
+    at_task P holds i site e =
         let at : 0 + i ≡ i = omega arith in
-        let there = found P ticks past holds sites 0 (served_counts plans ticks) now_counting.ran now_counting.machine.tasks numbered (served_now sites numbered same ticks) (run sites numbered same ticks) i b plan e f in
-        (there.0, there.1, there.2, there.3, subst (λ k. P k b plan there.0 there.1) at there.4)
+        let there = found P ticks past holds sites 0 (served_counts plans ticks) now_counting.ran now_counting.machine.tasks numbered (served_now sites numbered same ticks) (run sites numbered same ticks) i site e in
+        (there.0, there.1, there.2, there.3, there.4, there.5 ∙ at)
+
+    -- the plan at the place of a site is the site's
+    its_plan : (i : ℕ) (site : Site Timed costs plans streams) (plan : Plan) → slice_get sites i ≡ Some site → slice_get plans i ≡ Some plan → site.plan ≡ plan
+    its_plan i site plan e g =
+        same_Some site.plan plan (sym (slice_get-map (plan_of Timed costs plans streams) sites i ∙ ap (option_map (plan_of Timed costs plans streams)) e) ∙ ap (λ l. slice_get l i) (sym same) ∙ g)
 
     -- every trace of the set's image shows what its tasks are to do
     pub shows : Timed → Shows (map (behavior_of Timed costs plans streams) sites) plans ticks past
@@ -145,28 +144,44 @@ module _ (Timed : Type 0) (costs : Costs) (plans : List Plan) (streams : Streams
           known = subst (λ n. All (λ (e : Entry). e.task < n) past) counted (trace_known its_image streams ticks);
           keeps =
               λ i b e.
-              let plan = has_plan sites i b e in
-              (at_task (λ k b _ _ _. Keeps b ticks (entries_of k past))
+              let got = map_got (behavior_of Timed costs plans streams) sites i b e in
+              let there =
+              at_task (λ site _ _. Keeps site.behavior ticks (entries_of site.number past))
               (λ site count ran r is p. keeps Timed costs site.task (slice_index_or streams site.number []) site.behavior site.plan.total (λ time. served plans time site.number) site.frames ticks count ran r (entries_of site.number past) p
               (λ a b. served_mono plans a b site.number) is timed)
-              i b plan.0 e plan.1).4;
+              i got.0 got.1 in
+              subst (λ c. Keeps c ticks (entries_of i past)) got.2 (subst (λ k. Keeps got.0.behavior ticks (entries_of k past)) there.5 there.4);
           ended =
               λ i f b plan e g due.
-              (at_task (λ k b plan _ _. (f + 1) * plan.total ≤ served plans ticks k → length (promises b (f + 1)) ≤ length (entries_of k past))
+              let got = map_got (behavior_of Timed costs plans streams) sites i b e in
+              let there =
+              at_task (λ site _ _. (f + 1) * site.plan.total ≤ served plans ticks site.number → length (promises site.behavior (f + 1)) ≤ length (entries_of site.number past))
               (λ site count ran r is p. ended Timed costs site.task (slice_index_or streams site.number []) site.behavior site.plan.total (λ time. served plans time site.number) site.frames ticks count ran r (entries_of site.number past) p
               (λ a b. served_mono plans a b site.number) is f)
-              i b plan e (ap (λ l. slice_get l i) (sym same) ∙ g)).4
-              due;
+              i got.0 got.1 in
+              let total = ap (λ (q : Plan). (f + 1) * q.total) (its_plan i got.0 plan got.1 g) in
+              let number = ap (served plans ticks) there.5 in
+              subst (λ c. length (promises c (f + 1)) ≤ length (entries_of i past)) got.2
+              (subst (λ k. length (promises got.0.behavior (f + 1)) ≤ length (entries_of k past)) there.5 (there.4 (omega arith)));
         }
 
     -- each task is abreast of the demand schedule
-    pub all_abreast : (i : ℕ) (b : Behavior) (plan : Plan) (r : Running) (ran : ℕ) → slice_get (map (behavior_of Timed costs plans streams) sites) i ≡ Some b → PlanAt sites i plan →
-        slice_get now_counting.machine.tasks i ≡ Some r → slice_get now_counting.ran i ≡ Some ran → IsAbreast plans plan b ticks i r ran (entries_of i past)
-    all_abreast i b plan r ran e f is_r is_ran =
+    pub all_abreast : (i : ℕ) (b : Behavior) (plan : Plan) (events : ℕ → List Occurrence) (r : Running) (ran : ℕ) → slice_get (map (behavior_of Timed costs plans streams) sites) i ≡ Some b → slice_get plans i ≡ Some plan →
+        slice_get (map (events_in Timed costs plans streams) sites) i ≡ Some events → slice_get now_counting.machine.tasks i ≡ Some r → slice_get now_counting.ran i ≡ Some ran →
+        IsAbreast plans plan b events ticks i r ran (entries_of i past)
+    all_abreast i b plan events r ran e f g is_r is_ran =
+        let got = map_got (behavior_of Timed costs plans streams) sites i b e in
+        let site = got.0 in
         let there =
-        at_task (λ k b plan r m. IsAbreast plans plan b ticks k r m (entries_of k past))
+        at_task (λ site r m. IsAbreast plans site.plan site.behavior site.events ticks site.number r m (entries_of site.number past))
         (λ site count ran r is p. abreast Timed costs site.task (slice_index_or streams site.number []) site.behavior site.plan.total (λ time. served plans time site.number) site.frames ticks count ran r (entries_of site.number past) p
-        plans site.plan site.number is refl site.marked)
-        i b plan e f in
-        subst (λ q. IsAbreast plans plan b ticks i q ran (entries_of i past)) (same_Some _ r (sym there.2 ∙ is_r))
-        (subst (λ m. IsAbreast plans plan b ticks i there.0 m (entries_of i past)) (same_Some _ ran (sym there.3 ∙ is_ran)) there.4)
+        plans site.plan site.events site.number is refl site.marked site.binds)
+        i site got.1 in
+        let its_events : site.events ≡ events =
+        same_Some site.events events (sym (slice_get-map (events_in Timed costs plans streams) sites i ∙ ap (option_map (events_in Timed costs plans streams)) got.1) ∙ g) in
+        subst (λ q. IsAbreast plans plan b events ticks i q ran (entries_of i past)) (same_Some _ r (sym there.2 ∙ is_r))
+        (subst (λ m. IsAbreast plans plan b events ticks i there.0 m (entries_of i past)) (same_Some _ ran (sym there.3 ∙ is_ran))
+        (subst (λ es. IsAbreast plans plan b es ticks i there.0 there.1 (entries_of i past)) its_events
+        (subst (λ c. IsAbreast plans plan c site.events ticks i there.0 there.1 (entries_of i past)) got.2
+        (subst (λ q. IsAbreast plans q site.behavior site.events ticks i there.0 there.1 (entries_of i past)) (its_plan i site plan got.1 f)
+        (subst (λ k. IsAbreast plans site.plan site.behavior site.events ticks k there.0 there.1 (entries_of k past)) there.5 there.4)))))

@@ -14,7 +14,9 @@ use Rattle.tcel_core.specs.Promises.{Behavior}
 use Rattle.tcel_target.specs.declared.costs.Costs.{Costs}
 use Rattle.tcel_image.specs.declared.image.ImageTask.{ImageTask}
 use Rattle.tcel_image.specs.Machine.{Streams, Running, Ticked, is_ready, own_tick, entry_of, tick_from, runs, after, start_task}
-use Rattle.tcel_code.specs.Domination.{counted, ran_on}
+use Rattle.tcel_core.specs.Outcome.{Occurrence}
+use Rattle.tcel_code.specs.Domination.{AreBoundBy, counted, ran_on}
+use Rattle.tcel_code.proofs.Ahead.{Due}
 use Rattle.tcel_code.proofs.Progress.{Frames, Progress, waits, not_ended}
 use Rattle.tcel_code.proofs.Progress.{runs as task_runs}
 
@@ -24,11 +26,14 @@ pub record Site (Timed : Type 0) (costs : Costs) (plans : List Plan) (streams : 
   pub task : ImageTask
   pub plan : Plan
   pub behavior : Behavior
+  -- the events of its frames
+  pub events : ℕ → List Occurrence
   pub period : plan.period ≡ task.period
   pub positive : 0 < task.period
   pub frames : Frames Timed costs task (slice_index_or streams number []) behavior plan.total (λ time. served plans time number)
   pub first : frames.start 0 ≡ start_task task
   pub marked : (point : Point) → slice_get plan.points 0 ≡ Some point → frames.mark ≤ point.prefix
+  pub binds : (f k : ℕ) (e : Occurrence) → slice_get (events f) k ≡ Some e → (due : Due) × (slice_get (frames.dues f) k ≡ Some due) × AreBoundBy plan.points (λ prefix. due.by ≤ prefix) e.around
 
 -- what holds of two choices by one test
 by_test : {A C : Type 0} (b : Bool) (x y : A) (u v : C) (P : A → C → Type 0) → (b ≡ true → P x u) → (b ≡ false → P y v) → P (cond b x y) (cond b u v)
@@ -75,6 +80,9 @@ module _ (Timed : Type 0) (costs : Costs) (plans : List Plan) (streams : Streams
 
   abbrev pub plan_of : Site Timed costs plans streams → Plan
   plan_of site = site.plan
+
+  abbrev pub events_in : Site Timed costs plans streams → ℕ → List Occurrence
+  events_in site = site.events
 
   abbrev pub behavior_of : Site Timed costs plans streams → Behavior
   behavior_of site = site.behavior

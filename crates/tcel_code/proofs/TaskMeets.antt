@@ -1,6 +1,6 @@
 -- A task that is as far as its progress says keeps its promises.
-use Rattle.std.proofs.Common.{◌≡◌, ℕ, zero, suc, ◌+◌, ◌-◌, ◌*◌, ◌<◌, ◌≤◌, ℤ, List, [], ◌∷◌, ◌++◌, length, map, refl, sym, ap, ◌∙◌, subst, arith, append_assoc, length-append, Some, inl, inr}
-use Rattle.std.specs.Prelude.{slice_get}
+use Rattle.std.proofs.Common.{◌≡◌, ℕ, zero, suc, ◌+◌, ◌-◌, ◌*◌, ◌<◌, ◌≤◌, ℤ, List, [], ◌∷◌, ◌++◌, length, map, refl, sym, ap, ◌∙◌, subst, arith, append_assoc, length-append, Option, None, Some, inl, inr}
+use Rattle.std.specs.Prelude.{IfSome, slice_get}
 use Rattle.std.specs.List.{AllZip}
 use Rattle.std.proofs.Math.Nat.{mul-le-mul_right}
 use Rattle.std.proofs.lemmas.Bool.{cases_lt}
@@ -13,14 +13,16 @@ use Rattle.tcel_core.proofs.PromiseLaws.{promises-add, first_promises-prefix}
 use Rattle.tcel_target.specs.declared.costs.Costs.{Costs}
 use Rattle.tcel_image.specs.declared.image.ImageTask.{ImageTask}
 use Rattle.tcel_image.specs.Machine.{Running}
-use Rattle.tcel_num.specs.Plan.{Plan, Point}
+use Rattle.tcel_num.specs.Plan.{Plan, Point, PointName, before, within}
 use Rattle.tcel_num.specs.Schedule.{served}
-use Rattle.tcel_code.specs.Domination.{IsAbreast}
+use Rattle.tcel_core.specs.Outcome.{EnclosingBlock, Occurrence}
+use Rattle.tcel_core.specs.Windows.{start_bound}
+use Rattle.tcel_code.specs.Domination.{AreBoundBy, HasPointBy, IsAbreast}
 use Rattle.tcel_code.proofs.Ahead.{Due}
 use Rattle.tcel_code.proofs.Progress.{Frames, promise_of, Progress, still_due, not_ended}
 
 -- an element of a mapped list comes from one of the list
-map_got : {A B : Type 0} (f : A → B) (xs : List A) (k : ℕ) (y : B) → slice_get (map f xs) k ≡ Some y → (x : A) × (slice_get xs k ≡ Some x) × (f x ≡ y)
+pub map_got : {A B : Type 0} (f : A → B) (xs : List A) (k : ℕ) (y : B) → slice_get (map f xs) k ≡ Some y → (x : A) × (slice_get xs k ≡ Some x) × (f x ≡ y)
 map_got f [] k y e = absurd cc
 map_got f (x ∷ xs) zero y e = (x, refl, same_Some (f x) y e)
 map_got f (x ∷ xs) (suc k) y e = map_got f xs k y e
@@ -115,9 +117,34 @@ module _ (Timed : Type 0) (costs : Costs) (task : ImageTask) (inputs : List (Lis
         let whole = frames_ended (f + 1) 0 (omega arith) in
         omega (arith, earlier_frames (f + 1) whole, made_many)
 
+  -- each bound of the blocks around an event that is due by a count has a point by which the event is made
+  made_at : (plan : Plan) (f k : ℕ) (due : Due) → slice_get (frames.dues f) k ≡ Some due → f ≡ r.ended → (around : List EnclosingBlock) → AreBoundBy plan.points (λ prefix. due.by ≤ prefix) around →
+      AreBoundBy plan.points (λ prefix. prefix ≤ ran → length (promises b r.ended) + k < length past) around
+  made_at plan f k due e at [] bound = tt
+  made_at plan f k due e at (x ∷ around) bound = (each_if (within x.number) x.window.within bound.0, each_if (before x.number) (start_bound x) bound.1, made_at plan f k due e at around bound.2)
+    where
+      each_if : (name : PointName) (o : Option ℕ) → IfSome o (HasPointBy plan.points (λ prefix. due.by ≤ prefix) name) →
+          IfSome o (HasPointBy plan.points (λ prefix. prefix ≤ ran → length (promises b r.ended) + k < length past) name)
+      each_if name None h = tt
+      each_if name (Some bound') h = record {
+        number = h.number;
+        point = h.point;
+        there = h.there;
+        named = h.named;
+        bounded = h.bounded;
+        so =
+            λ reached.
+            let soon = h.so in
+            let same = ap (λ n. n * total) (at ∙ p.at) in
+            subst (λ n. length (promises b n) + k < length past) at (made_by f k due e (omega arith));
+      }
+
   -- it is abreast of the demand schedule
-  pub abreast : (plans : List Plan) (plan : Plan) (number : ℕ) → count ≡ served plans now number → plan.total ≡ total → ((point : Point) → slice_get plan.points 0 ≡ Some point → frames.mark ≤ point.prefix) → IsAbreast plans plan b now number r ran past
-  abreast plans plan number is same point_of = record {
+  pub abreast : (plans : List Plan) (plan : Plan) (events : ℕ → List Occurrence) (number : ℕ) → count ≡ served plans now number → plan.total ≡ total →
+      ((point : Point) → slice_get plan.points 0 ≡ Some point → frames.mark ≤ point.prefix) →
+      ((f k : ℕ) (e : Occurrence) → slice_get (events f) k ≡ Some e → (due : Due) × (slice_get (frames.dues f) k ≡ Some due) × AreBoundBy plan.points (λ prefix. due.by ≤ prefix) e.around) →
+      IsAbreast plans plan b events now number r ran past
+  abreast plans plan events number is same point_of binds = record {
     follows = p.told_so_far ∙ ap (map promised) (sym prefix);
     dominates =
         let most = p.dominates in
@@ -133,4 +160,5 @@ module _ (Timed : Type 0) (costs : Costs) (task : ImageTask) (inputs : List (Lis
         let soon = point_of point is_point in
         let done = made_by p.frame (length (b.frames p.frame).events) own.0 own.1 (omega arith) in
         subst (λ f. length (promises b f) + length (b.frames f).events < length past) (sym p.at) done;
+    bound = λ k e here. let own = binds r.ended k e here in made_at plan r.ended k own.0 own.1 refl e.around own.2;
   }

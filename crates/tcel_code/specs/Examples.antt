@@ -1,11 +1,12 @@
 -- Worked images of sets in other forms than whole, and what they show.
-use Rattle.std.specs.Prelude.{pos, true, List, [], ◌∷◌, codes}
+use Rattle.std.specs.Prelude.{pos, true, List, [], ◌∷◌, Some, codes}
 use Rattle.tcel_num.specs.declared.op.Op.TheVariants.{Add}
 use Rattle.tcel_num.specs.Entry.{Entry, receive as received, send as sent, first, end}
 use Rattle.tcel_core.specs.declared.var.Keep.{Keep}
 use Rattle.tcel_core.specs.declared.var.Var.{Var}
 use Rattle.tcel_core.specs.Examples.{int_var, one, plus}
 use Rattle.tcel_core.specs.Language.{variable, Block, done, next, item, assign, send, for_loop}
+use Rattle.tcel_core.specs.Outcome.{EnclosingBlock}
 use Rattle.tcel_image.specs.declared.image.Image.{Image}
 use Rattle.tcel_image.specs.declared.image.Instr.TheVariants.{Const, Get, Put, Arith, Loop, Receive, Send, Mark, End}
 use Rattle.tcel_image.specs.declared.image.Line.{Line}
@@ -13,6 +14,10 @@ use Rattle.tcel_image.specs.declared.image.StateKind.TheVariants.{Int}
 use Rattle.tcel_image.specs.Examples.{at_depth, entry}
 use Rattle.tcel_image.specs.Machine.{Streams}
 use Rattle.tcel_target.specs.Costs.{unit_costs}
+
+-- the block around the events of a task that waits, with the event that leads it
+abbrev pub waiting : List EnclosingBlock
+waiting = record { number = 1; window = record { after = Some 3; before = Some 5; within = Some 6 }; leads = true } ∷ []
 
 -- two tasks, of which the higher waits in a block: it takes ticks 0 to 7 of each 10, and the lower one the others
 abbrev pub pair_streams : Streams

@@ -1,4 +1,4 @@
-ghost use Rattle.std.specs.Prelude.{◌≡◌, [], ◌∷◌, map, All};
+ghost use Rattle.std.specs.Prelude.{◌≡◌, ◌≤◌, [], ◌∷◌, map, All};
 ghost use Rattle.tcel_num.specs.Lateness.{IsNeverLate};
 ghost use Rattle.tcel_num.specs.Schedule.{served_counts};
 ghost use Rattle.tcel_core.specs.Scope.{TaskFits};
@@ -7,8 +7,8 @@ ghost use Rattle.tcel_image.specs.Machine.{trace};
 ghost use Rattle.tcel_cost.specs.Examples.{late_plans, overrunning, overrunning_plans, pair, pair_plans, sliced_counter, sliced_counter_plan, windowed_plan, windowed_task};
 ghost use Rattle.tcel_code.specs.Code.{frame_code};
 ghost use Rattle.tcel_code.specs.Counters.{counters_of};
-ghost use Rattle.tcel_code.specs.Domination.{counting};
-ghost use Rattle.tcel_code.specs.Examples.{loops_body, loops_code, loops_first, loops_rest, loops_vars, overrunning_streams, overrunning_trace, pair_streams, pair_trace, sliced_image, sliced_streams, sliced_trace};
+ghost use Rattle.tcel_code.specs.Domination.{AreBoundBy, counting};
+ghost use Rattle.tcel_code.specs.Examples.{loops_body, loops_code, loops_first, loops_rest, loops_vars, overrunning_streams, overrunning_trace, pair_streams, pair_trace, sliced_image, sliced_streams, sliced_trace, waiting};
 ghost use Rattle.tcel_code.specs.Layout.{image_of, layout};
 ghost use Rattle.tcel_code.specs.PartsFit.{PartsFit};
 ghost use Rattle.tcel_code.specs.Theorem.{RunsMeet, RunsOfFormsMeet};
@@ -18,6 +18,10 @@ pub fn window_examples()
     ensures fits { All TaskFits (windowed_task ∷ []) }
     ensures in_time { IsNeverLate (windowed_plan ∷ []) }
     ensures meets { RunsMeet (windowed_task ∷ []) unit_costs (windowed_plan ∷ []) }
+
+    // The points that bind the first event of its block: `before 1` with the prefix 4 and `within 1` with 6.
+    ensures bound { AreBoundBy windowed_plan.points (λ prefix. prefix ≤ 6) waiting }
+    ensures no_sooner { ¬ (AreBoundBy windowed_plan.points (λ prefix. prefix ≤ 5) waiting) }
 {}
 
 /// Two tasks that use every tick, of which the higher waits in a block (docs/analysis.md).
