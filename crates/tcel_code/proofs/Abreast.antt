@@ -20,6 +20,6 @@ behavior_at (f ∷ forms) (s ∷ streams) zero form e = ap (λ (g : Form). Some 
 behavior_at (f ∷ forms) (s ∷ streams) (suc i) form e = behavior_at forms streams i form e
 
 pub runs_keep_abreast : RunsKeepAbreast
-runs_keep_abreast = λ forms costs plans streams ticks all ranges are long number form plan r ran is_form is_plan is_r is_ran.
+runs_keep_abreast = λ forms costs plans streams ticks all ranges are long number form plan is_form is_plan.
     set_abreast ⊥ costs ranges plans streams forms (all_serve ⊥ costs ranges plans streams (λ never. absurd never) 0 forms plans streams refl refl (recursion_from_All PartsFit forms all) are long) ticks
-    number form (behavior_of form.task (slice_index_or streams number [])) plan r ran is_form (behavior_at forms streams number form is_form) is_plan is_r is_ran
+    number form (behavior_of form.task (slice_index_or streams number [])) plan is_form (behavior_at forms streams number form is_form) is_plan

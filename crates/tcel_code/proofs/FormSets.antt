@@ -15,8 +15,8 @@ use Rattle.tcel_target.specs.declared.costs.Costs.{Costs}
 use Rattle.tcel_target.specs.Costs.{CostsInRange}
 use Rattle.tcel_image.specs.declared.image.Image.{Image}
 use Rattle.tcel_image.specs.declared.image.ImageTask.{ImageTask}
-use Rattle.tcel_image.specs.Machine.{Running, Streams, trace}
-use Rattle.tcel_code.specs.Domination.{IsAbreast, counting, events_of}
+use Rattle.tcel_image.specs.Machine.{Streams, trace}
+use Rattle.tcel_code.specs.Domination.{IsAbreastAt, counting, events_of}
 use Rattle.tcel_cost.specs.Forms.{Form}
 use Rattle.std.specs.List.{AllByRecursion, AllZip}
 use Rattle.tcel_cost.specs.Plans.{ArePlans, IsPlan}
@@ -187,16 +187,15 @@ module _ (Timed : Type 0) (costs : Costs) (ranges : CostsInRange costs) (plans :
         (subst (λ bs. Shows bs plans ticks (trace (image_of_sites Timed costs plans streams found.sites) streams ticks)) found.of_behaviors shown)
 
     -- each task is abreast of the demand schedule
-    pub set_abreast : (i : ℕ) (form : Form) (b : Behavior) (plan : Plan) (r : Running) (ran : ℕ) → slice_get forms i ≡ Some form → slice_get (behaviors_of (map source_of forms) streams) i ≡ Some b → slice_get plans i ≡ Some plan →
-        slice_get (counting (layout forms costs) streams ticks).machine.tasks i ≡ Some r → slice_get (counting (layout forms costs) streams ticks).ran i ≡ Some ran →
-        IsAbreast plans plan b (events_of form.task (slice_index_or streams i [])) ticks i r ran (entries_of i (trace (layout forms costs) streams ticks))
-    set_abreast i form b plan r ran is_form e f =
+    pub set_abreast : (i : ℕ) (form : Form) (b : Behavior) (plan : Plan) → slice_get forms i ≡ Some form → slice_get (behaviors_of (map source_of forms) streams) i ≡ Some b → slice_get plans i ≡ Some plan →
+        IsAbreastAt (counting (layout forms costs) streams ticks) plans plan b (events_of form.task (slice_index_or streams i [])) ticks i (entries_of i (trace (layout forms costs) streams ticks))
+    set_abreast i form b plan is_form e f =
         let at : 0 + i ≡ i = omega arith in
         let events = events_of form.task (slice_index_or streams i []) in
         let its : slice_get (all_events 0 forms) i ≡ Some events = events_at 0 forms i form is_form ∙ ap (λ k. Some (events_of form.task (slice_index_or streams k []))) at in
         let P : List ImageTask → Type 0 =
         λ its.
         let image : Image = record { costs = costs; tasks = its } in
-        slice_get (counting image streams ticks).machine.tasks i ≡ Some r → slice_get (counting image streams ticks).ran i ≡ Some ran → IsAbreast plans plan b events ticks i r ran (entries_of i (trace image streams ticks)) in
+        IsAbreastAt (counting image streams ticks) plans plan b events ticks i (entries_of i (trace image streams ticks)) in
         subst P found.of_tasks
-        (all_abreast Timed costs plans streams found.sites found.numbered (sym found.of_plans) ticks i b plan events r ran (ap (λ l. slice_get l i) found.of_behaviors ∙ e) f (ap (λ l. slice_get l i) found.of_events ∙ its))
+        (all_abreast Timed costs plans streams found.sites found.numbered (sym found.of_plans) ticks i b plan events (ap (λ l. slice_get l i) found.of_behaviors ∙ e) f (ap (λ l. slice_get l i) found.of_events ∙ its))

@@ -14,7 +14,7 @@ use Rattle.tcel_core.specs.Promises.{Behavior, promises}
 use Rattle.tcel_target.specs.declared.costs.Costs.{Costs}
 use Rattle.tcel_image.specs.declared.image.Image.{Image}
 use Rattle.tcel_image.specs.Machine.{Streams, Running, tick, entries, start, start_task, trace}
-use Rattle.tcel_code.specs.Domination.{Counting, IsAbreast, count_on, counting, counting_from}
+use Rattle.tcel_code.specs.Domination.{Counting, IsAbreast, IsAbreastAt, count_on, counting, counting_from}
 use Rattle.tcel_code.proofs.Progress.{Progress, begins}
 use Rattle.tcel_code.proofs.SetRuns.{Site, Numbered, EachProgress, AreServed, ProgressAt, task_of, plan_of, behavior_of, events_in, served_tick}
 use Rattle.tcel_image.proofs.Traces.{trace_rises, trace_known}
@@ -166,10 +166,9 @@ module _ (Timed : Type 0) (costs : Costs) (plans : List Plan) (streams : Streams
         }
 
     -- each task is abreast of the demand schedule
-    pub all_abreast : (i : ℕ) (b : Behavior) (plan : Plan) (events : ℕ → List Occurrence) (r : Running) (ran : ℕ) → slice_get (map (behavior_of Timed costs plans streams) sites) i ≡ Some b → slice_get plans i ≡ Some plan →
-        slice_get (map (events_in Timed costs plans streams) sites) i ≡ Some events → slice_get now_counting.machine.tasks i ≡ Some r → slice_get now_counting.ran i ≡ Some ran →
-        IsAbreast plans plan b events ticks i r ran (entries_of i past)
-    all_abreast i b plan events r ran e f g is_r is_ran =
+    pub all_abreast : (i : ℕ) (b : Behavior) (plan : Plan) (events : ℕ → List Occurrence) → slice_get (map (behavior_of Timed costs plans streams) sites) i ≡ Some b → slice_get plans i ≡ Some plan →
+        slice_get (map (events_in Timed costs plans streams) sites) i ≡ Some events → IsAbreastAt now_counting plans plan b events ticks i (entries_of i past)
+    all_abreast i b plan events e f g =
         let got = map_got (behavior_of Timed costs plans streams) sites i b e in
         let site = got.0 in
         let there =
@@ -178,10 +177,13 @@ module _ (Timed : Type 0) (costs : Costs) (plans : List Plan) (streams : Streams
         plans site.plan site.events site.number is refl site.marked site.binds)
         i site got.1 in
         let its_events : site.events ≡ events =
-        same_Some site.events events (sym (slice_get-map (events_in Timed costs plans streams) sites i ∙ ap (option_map (events_in Timed costs plans streams)) got.1) ∙ g) in
-        subst (λ q. IsAbreast plans plan b events ticks i q ran (entries_of i past)) (same_Some _ r (sym there.2 ∙ is_r))
-        (subst (λ m. IsAbreast plans plan b events ticks i there.0 m (entries_of i past)) (same_Some _ ran (sym there.3 ∙ is_ran))
-        (subst (λ es. IsAbreast plans plan b es ticks i there.0 there.1 (entries_of i past)) its_events
-        (subst (λ c. IsAbreast plans plan c site.events ticks i there.0 there.1 (entries_of i past)) got.2
-        (subst (λ q. IsAbreast plans q site.behavior site.events ticks i there.0 there.1 (entries_of i past)) (its_plan i site plan got.1 f)
-        (subst (λ k. IsAbreast plans site.plan site.behavior site.events ticks k there.0 there.1 (entries_of k past)) there.5 there.4)))))
+        same_Some site.events events (sym (slice_get-map (events_in Timed costs plans streams) sites i ∙ ap (option_map (events_in Timed costs plans streams)) got.1) ∙ g) in (
+          there.0,
+          there.1,
+          there.2,
+          there.3,
+          subst (λ es. IsAbreast plans plan b es ticks i there.0 there.1 (entries_of i past)) its_events
+              (subst (λ c. IsAbreast plans plan c site.events ticks i there.0 there.1 (entries_of i past)) got.2
+              (subst (λ q. IsAbreast plans q site.behavior site.events ticks i there.0 there.1 (entries_of i past)) (its_plan i site plan got.1 f)
+              (subst (λ k. IsAbreast plans site.plan site.behavior site.events ticks k there.0 there.1 (entries_of k past)) there.5 there.4))),
+        )

@@ -87,12 +87,17 @@ pub record IsAbreast (plans : List Plan) (plan : Plan) (b : Behavior) (events : 
   pub bound : (k : ℕ) (e : Occurrence) → slice_get (events r.ended) k ≡ Some e →
       AreBoundBy plan.points (λ prefix. prefix ≤ ran → length (promises b r.ended) + k < length entries) e.around
 
+-- so it is with the task of this number on a machine
+abbrev pub IsAbreastAt : Counting → List Plan → Plan → Behavior → (ℕ → List Occurrence) → (now number : ℕ) → List Entry → Type 0
+IsAbreastAt c plans plan b events now number entries =
+    (r : Running) × (ran : ℕ) × (slice_get c.machine.tasks number ≡ Some r) × (slice_get c.ran number ≡ Some ran) × IsAbreast plans plan b events now number r ran entries
+
 -- in every run of the image of a set, whether its demand fits or not, each task is abreast of the demand schedule at every time
 abbrev pub RunsKeepAbreast : Type 0
 RunsKeepAbreast =
     (forms : List Form) (costs : Costs) (plans : List Plan) (streams : Streams) (ticks : ℕ) → All PartsFit forms → CostsInRange costs → ArePlans forms costs plans →
     AllZip HasStreams (map (λ (form : Form). form.task) forms) streams →
-    (number : ℕ) (form : Form) (plan : Plan) (r : Running) (ran : ℕ) → slice_get forms number ≡ Some form → slice_get plans number ≡ Some plan →
-    slice_get (counting (layout forms costs) streams ticks).machine.tasks number ≡ Some r → slice_get (counting (layout forms costs) streams ticks).ran number ≡ Some ran →
+    (number : ℕ) (form : Form) (plan : Plan) → slice_get forms number ≡ Some form → slice_get plans number ≡ Some plan →
     let own = slice_index_or streams number [] in
-    IsAbreast plans plan (behavior_of form.task own) (events_of form.task own) ticks number r ran (entries_of number (trace (layout forms costs) streams ticks))
+    IsAbreastAt (counting (layout forms costs) streams ticks) plans plan (behavior_of form.task own) (events_of form.task own) ticks number
+    (entries_of number (trace (layout forms costs) streams ticks))
