@@ -4,6 +4,7 @@
 mod cycle;
 mod entry;
 mod execute;
+mod laws;
 mod machine;
 mod stack;
 mod start;
@@ -11,6 +12,7 @@ mod step;
 mod task;
 
 pub use entry::{Entry, What};
+pub use laws::no_step_takes_a_default;
 pub use machine::Machine;
 
 #[cfg(test)]
