@@ -216,3 +216,7 @@ module _ {S : Type 0} (p : Pass S) where
         Goes p (from_end xs c) (from_end xs m) (p.enter a) b → Goes p (from_end xs (m - 1)) (from_end xs o) (p.again a b) u → Passes p (from_end xs c) [] a u
     passes_all c m o a b u none some most start g h =
         record { same = λ k. into_first c m a b some most start g k ∙ (h.same (in_first a b ∷ k) ∙ ap (λ n. run p (in_first a b ∷ k) (from_end xs n) u) none) }
+
+    -- or in the second
+    pub passes_none : (c m : ℕ) (a b : S) → m ≡ 0 → Goes p (from_end xs c) (from_end xs m) (p.enter a) b → Passes p (from_end xs c) [] a (p.again a b)
+    passes_none c m a b none g = record { same = λ k. g.same (in_second a ∷ k) ∙ ap (λ n. run p (in_second a ∷ k) (from_end xs n) b) none }
