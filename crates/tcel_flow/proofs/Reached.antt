@@ -1,6 +1,6 @@
 -- What the walk that asks who reaches whom answers: what the definition says of the body's paths.
-use Rattle.std.proofs.Common.{◌≡◌, ℕ, ◌<◌, ◌≤◌, Bool, true, false, not, ◌||◌, ◌&&◌, ◌==◌, List, [], ◌∷◌, ◌++◌, refl, sym, ap, ◌∙◌, subst, length, length-append, arith}
-use Rattle.std.specs.Prelude.{All, Option, IsSome, Some, None}
+use Rattle.std.proofs.Common.{◌≡◌, ℕ, ◌<◌, ◌≤◌, Bool, true, false, not, ◌||◌, ◌&&◌, ◌==◌, List, [], ◌∷◌, ◌++◌, refl, sym, ap, ◌∙◌, length, length-append, arith}
+use Rattle.std.specs.Prelude.{Option, IsSome, Some, None}
 use Rattle.std.specs.List.{filter_map, cons_option, AllByRecursion}
 use Rattle.std.proofs.lemmas.List.Elements.{recursion_from_All}
 use Rattle.std.proofs.Math.Bool.{or-false}
@@ -19,10 +19,10 @@ use Rattle.tcel_flow.specs.declared.reaching.Use.{Use as CodeUse}
 use Rattle.tcel_flow.specs.declared.reaching.Use.TheVariants as uses
 use Rattle.tcel_flow.specs.declared.step.Step.{Step}
 use Rattle.tcel_flow.specs.declared.step.Step.TheVariants as steps
-use Rattle.tcel_flow.specs.Backward.{Pass, back, from_end, run, IsStart, Goes}
-use Rattle.tcel_flow.specs.Reaching.{plain_use, is_item_use, is_test_use, is_asked, writes_it, is_source, reaching}
-use Rattle.tcel_flow.specs.Shape.{Place, at_item as item_place, opens, places, IsStep, AreSteps}
-use Rattle.tcel_flow.proofs.Backward.{Rules, over, over_stmt, AreSame, Walked, walked, stops, from_end_all}
+use Rattle.tcel_flow.specs.Backward.{from_end, run, IsStart, Goes}
+use Rattle.tcel_flow.specs.Reaching.{plain_use, is_item_use, is_test_use, reaching}
+use Rattle.tcel_flow.specs.Shape.{at_item as item_place, opens, places, IsStep, AreSteps}
+use Rattle.tcel_flow.proofs.Backward.{Rules, over, over_stmt, AreSame, walked, stops, from_end_all}
 use Rattle.tcel_parts.specs.Rows.{row, stmt_row, row_behind, stmt_row_behind}
 use Rattle.tcel_parts.proofs.Hits.{and_both}
 use Rattle.tcel_parts.proofs.Members.{In}

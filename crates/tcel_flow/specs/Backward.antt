@@ -1,5 +1,5 @@
 -- A walk through a body's steps from the end: what it knows is passed from each place to the one before it.
-use Rattle.std.specs.Prelude.{◌≡◌, ℕ, ◌≤◌, List, [], ◌∷◌, take}
+use Rattle.std.specs.Prelude.{◌≡◌, ℕ, List, [], ◌∷◌, take}
 use Rattle.tcel_flow.specs.declared.step.Step.{Step}
 use Rattle.tcel_flow.specs.declared.step.Step.TheVariants as steps
 

@@ -10,7 +10,7 @@ mod step;
 mod tests;
 
 pub use around::stands_around;
-pub use examples::shape_example;
+pub use examples::{shape_example, worked_task};
 pub use reaching::{Use, reaches};
 pub use shape::{Flow, flow_of};
 pub use step::Step;

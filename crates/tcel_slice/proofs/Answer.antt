@@ -1,18 +1,18 @@
 -- The list of marks that the walk leaves is the kept set.
-use Rattle.std.proofs.Common.{◌≡◌, ℕ, zero, suc, ◌+◌, ◌<◌, ◌≤◌, Bool, true, false, List, [], ◌∷◌, ◌++◌, length, length-append, get_or, replicate, refl, sym, ap, ◌∙◌, subst, arith, ◌⊎◌, inl, inr}
+use Rattle.std.proofs.Common.{◌≡◌, ℕ, zero, suc, ◌+◌, ◌≤◌, Bool, true, false, List, [], ◌∷◌, ◌++◌, length, length-append, replicate, refl, sym, ap, ◌∙◌, subst, arith, inl, inr}
 use Rattle.std.proofs.lemmas.Bool.{true≢false, cases_lt}
-use Rattle.tcel_core.specs.Kept.{IsClosed, IsKeptSet}
-use Rattle.tcel_core.specs.Language.{Expr, Block, done, next, Stmt, item, choice, timed, Act, Task}
-use Rattle.tcel_core.specs.Numbering.{item_numbers, stmt_item_numbers, numbers_from}
+use Rattle.tcel_core.specs.Kept.{IsKeptSet}
+use Rattle.tcel_core.specs.Language.{Block, done, next, Stmt, item, choice, timed, Task}
+use Rattle.tcel_core.specs.Numbering.{item_numbers, stmt_item_numbers}
 use Rattle.tcel_core.specs.Sound.{IsSoundTask}
 use Rattle.tcel_flow.specs.declared.step.Step.{Step}
 use Rattle.tcel_flow.specs.declared.step.Step.TheVariants as steps
-use Rattle.tcel_flow.specs.Backward.{back, from_end, run, IsStart}
-use Rattle.tcel_flow.specs.Shape.{Place, at_item, opens, changes, closes, places, stmt_places, IsRow, AreSteps}
-use Rattle.tcel_flow.proofs.Backward.{Two, two, over, walked, stops, from_end_all}
+use Rattle.tcel_flow.specs.Backward.{from_end, run, IsStart}
+use Rattle.tcel_flow.specs.Shape.{changes, closes, places, stmt_places, IsRow, AreSteps}
+use Rattle.tcel_flow.proofs.Backward.{two, walked, stops, from_end_all}
 use Rattle.tcel_parts.proofs.Members.{In, numbers_within}
 use Rattle.tcel_slice.specs.declared.keeping.Needed.{Needed}
-use Rattle.tcel_slice.specs.Keeping.{Known, keeping, marked, items_in, IsKnown, Keeps}
+use Rattle.tcel_slice.specs.Keeping.{Known, keeping, marked, items_in, Keeps}
 use Rattle.tcel_slice.proofs.Marks.{keep, Same, the_same, new}
 use Rattle.tcel_slice.proofs.Closed.{none, marks_of, is_closed}
 use Rattle.tcel_slice.proofs.Least.{in_closed}

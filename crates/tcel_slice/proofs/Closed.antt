@@ -1,15 +1,15 @@
 -- What the walk marks is closed under what kept items need.
-use Rattle.std.proofs.Common.{◌≡◌, ℕ, zero, suc, ◌<◌, ◌≤◌, Bool, true, false, cond, not, ◌&&◌, ◌||◌, ◌==◌, List, [], ◌∷◌, ◌++◌, length, refl, sym, ap, ◌∙◌, subst, arith, ◌⊎◌, inl, inr, eq-eqb, eqb-true}
+use Rattle.std.proofs.Common.{◌≡◌, ℕ, zero, suc, ◌<◌, Bool, true, false, cond, not, ◌&&◌, ◌||◌, ◌==◌, List, [], ◌∷◌, ◌++◌, length, refl, sym, ◌∙◌, subst, arith, ◌⊎◌, inl, inr, eq-eqb, eqb-true}
 use Rattle.std.specs.Prelude.{Contains}
 use Rattle.std.specs.List.{list_any}
-use Rattle.std.proofs.lemmas.Bool.{true≢false, or_left, or_right, cases_lt}
+use Rattle.std.proofs.lemmas.Bool.{true≢false, or_left, or_right}
 use Rattle.std.proofs.lemmas.List.Folds.{list_any-append}
 use Rattle.tcel_core.specs.declared.var.Var.{Var}
 use Rattle.tcel_core.specs.Contents.{act_has_event}
-use Rattle.tcel_core.specs.Kept.{by_item, by_test, is_item, is_use, holds_item, stands_around, stmt_stands_around, reaches, IsClosed}
+use Rattle.tcel_core.specs.Kept.{by_item, by_test, is_item, is_use, holds_item, stands_around, stmt_stands_around, IsClosed}
 use Rattle.tcel_core.specs.Kinds.{Slicing, is_kept_item, holds_kept, reads_inside}
 use Rattle.tcel_core.specs.Language.{Expr, Block, done, next, Stmt, item, choice, timed, Act, Task}
-use Rattle.tcel_core.specs.Numbering.{item_numbers, numbers_from, if_numbers, stmt_if_numbers}
+use Rattle.tcel_core.specs.Numbering.{item_numbers, if_numbers, stmt_if_numbers}
 use Rattle.tcel_core.specs.Paths.{Point, at_item, at_test, points, stmt_points, point_reads, point_writes}
 use Rattle.tcel_core.specs.Sound.{IsSoundTask}
 use Rattle.tcel_core.specs.Uses.{act_reads, act_writes, expr_reads}
@@ -18,13 +18,13 @@ use Rattle.tcel_flow.proofs.Reached.{writes_few}
 use Rattle.tcel_parts.specs.Rows.{row, stmt_row, row_behind, stmt_row_behind}
 use Rattle.tcel_parts.proofs.Alike.{either}
 use Rattle.tcel_parts.proofs.Distinct.{AreDistinct, split, numbers_distinct, test_numbered, stmt_test_numbered}
-use Rattle.tcel_parts.proofs.Hits.{Met, Passed, behind_found, and_both, and_true}
+use Rattle.tcel_parts.proofs.Hits.{behind_found, and_both, and_true}
 use Rattle.tcel_parts.proofs.Members.{In, in_left, in_right, in_either, any_from_in, in_from_any}
 use Rattle.tcel_parts.proofs.OwnNames.{point_behind}
 use Rattle.tcel_parts.proofs.Rows.{any_behind}
 use Rattle.tcel_slice.specs.Keeping.{Known, have_common}
 use Rattle.tcel_slice.proofs.Common.{common_some}
-use Rattle.tcel_slice.proofs.Marks.{keep, is_wanted, grow, stmt_grow, Final, IsFinal, StmtIsFinal, rest_final, head_final, else_final, then_final}
+use Rattle.tcel_slice.proofs.Marks.{keep, is_wanted, grow, stmt_grow, IsFinal, StmtIsFinal, rest_final, head_final, else_final, then_final}
 
 -- what is known before an item
 picked : (k a w r : Bool) → ((k ≡ true) × (r ≡ true)) ⊎ ((not w ≡ true) × (a ≡ true)) → cond k ((a && not w) || r) a ≡ true

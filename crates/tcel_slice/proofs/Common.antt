@@ -1,7 +1,6 @@
 -- Variables below 256 that two sets have in common.
-use Rattle.std.proofs.Common.{◌≡◌, ℕ, ◌<◌, Bool, true, false, ◌&&◌, ◌||◌, refl, sym, ap, ◌∙◌, arith}
+use Rattle.std.proofs.Common.{◌≡◌, ℕ, ◌<◌, Bool, true, false, ◌&&◌, refl, sym, ◌∙◌, arith}
 use Rattle.std.specs.Prelude.{◌↔◌}
-use Rattle.std.proofs.lemmas.Bool.{true≢false}
 use Rattle.tcel_core.specs.declared.row.Row.{Row}
 use Rattle.tcel_core.specs.Numbering.{numbers_from}
 use Rattle.tcel_core.specs.Rows.{stands_in}

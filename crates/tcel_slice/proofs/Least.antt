@@ -1,5 +1,5 @@
 -- Whatever closed set there is has what the walk marks.
-use Rattle.std.proofs.Common.{◌≡◌, ℕ, ◌<◌, Bool, true, false, cond, not, ◌&&◌, ◌||◌, ◌==◌, List, [], ◌∷◌, ◌++◌, refl, sym, ap, ◌∙◌, subst, ◌⊎◌, inl, inr, eq-eqb, eqb-true}
+use Rattle.std.proofs.Common.{◌≡◌, ℕ, ◌<◌, Bool, true, false, cond, not, ◌&&◌, ◌||◌, ◌==◌, List, [], ◌∷◌, ◌++◌, refl, sym, ap, ◌∙◌, subst, inl, inr, eq-eqb, eqb-true}
 use Rattle.std.specs.List.{list_any}
 use Rattle.std.proofs.lemmas.Bool.{true≢false, or_left, or_right}
 use Rattle.std.proofs.lemmas.List.Folds.{list_any-append}
@@ -7,8 +7,8 @@ use Rattle.tcel_core.specs.declared.var.Var.{Var}
 use Rattle.tcel_core.specs.Contents.{act_has_event}
 use Rattle.tcel_core.specs.Kept.{is_item, IsClosed}
 use Rattle.tcel_core.specs.Kinds.{Slicing, is_kept_item, holds_kept, reads_inside}
-use Rattle.tcel_core.specs.Language.{Expr, Block, done, next, Stmt, item, choice, timed, Act}
-use Rattle.tcel_core.specs.Paths.{Point, at_item, at_test, points, stmt_points, point_writes}
+use Rattle.tcel_core.specs.Language.{Block, done, next, Stmt, item, choice, timed, Act}
+use Rattle.tcel_core.specs.Paths.{Point, at_item, points, stmt_points, point_writes}
 use Rattle.tcel_core.specs.Uses.{act_reads, act_writes, expr_reads}
 use Rattle.tcel_flow.proofs.Backward.{over, over_stmt}
 use Rattle.tcel_parts.specs.Rows.{row, stmt_row, row_behind, stmt_row_behind}

@@ -1,6 +1,6 @@
 -- The walk over statements, and which items it marks.
-use Rattle.std.proofs.Common.{◌≡◌, ℕ, ◌<◌, Bool, true, false, cond, not, ◌&&◌, ◌||◌, ◌==◌, List, [], ◌∷◌, ◌++◌, refl, sym, ap, ◌∙◌, subst, ◌⊎◌, inl, inr, eqb-true, eq-eqb}
-use Rattle.std.proofs.lemmas.Bool.{true≢false, or_left, or_right}
+use Rattle.std.proofs.Common.{◌≡◌, ℕ, ◌<◌, Bool, true, false, cond, not, ◌&&◌, ◌||◌, ◌==◌, List, ◌++◌, refl, sym, ap, ◌∙◌, ◌⊎◌, inl, inr, eqb-true}
+use Rattle.std.proofs.lemmas.Bool.{or_left}
 use Rattle.tcel_core.specs.Contents.{act_has_event}
 use Rattle.tcel_core.specs.Language.{Expr, Block, done, next, Stmt, item, choice, timed, Act}
 use Rattle.tcel_core.specs.Numbering.{item_numbers, stmt_item_numbers}
@@ -13,9 +13,9 @@ use Rattle.tcel_flow.proofs.Backward.{Rules, over, over_stmt, AreSame}
 use Rattle.tcel_parts.proofs.Alike.{either}
 use Rattle.tcel_parts.proofs.Distinct.{AreDistinct, split}
 use Rattle.tcel_parts.proofs.Hits.{and_both}
-use Rattle.tcel_parts.proofs.Members.{In, in_left, in_right, in_either}
-use Rattle.tcel_slice.specs.Keeping.{Known, before_item, before_test, keep_item, keeping, have_common}
-use Rattle.tcel_slice.proofs.Common.{Shared, common_some, common_found, same_truth}
+use Rattle.tcel_parts.proofs.Members.{In, in_left, in_right}
+use Rattle.tcel_slice.specs.Keeping.{Known, before_item, before_test, keeping, have_common}
+use Rattle.tcel_slice.proofs.Common.{common_some, common_found, same_truth}
 
 -- ---- the walk
 
@@ -193,7 +193,6 @@ module _ (kept : ℕ → Bool) where
         first_final (stmt_item_numbers s) (item_numbers rest) t.marks (over keep rest t).marks (over keep (next s rest) t).marks (stmt_grow s (over keep rest t)) (stmt_new s (over keep rest t)) (new rest t) f
 
   module _ (m : ℕ) (test : Expr) (held other : Block) (t : Known) (f : StmtIsFinal (choice m test held other) t) where
-
     pub else_final : IsFinal other (keep.enter t)
     else_final =
         second_final (item_numbers held) (item_numbers other) t.marks (over keep other (keep.enter t)).marks (over keep held (keep.again t (over keep other (keep.enter t)))).marks (grow held (keep.again t (over keep other (keep.enter t))))

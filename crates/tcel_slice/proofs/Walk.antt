@@ -1,14 +1,12 @@
 -- What the code's walk knows at each step.
-use Rattle.std.proofs.Common.{◌≡◌, ℕ, ◌-◌, ◌<◌, ◌≤◌, Bool, true, false, cond, not, ◌&&◌, ◌||◌, ◌==◌, List, [], length, get_or, refl, sym, ap, ◌∙◌, subst}
+use Rattle.std.proofs.Common.{◌≡◌, ℕ, ◌-◌, ◌<◌, ◌≤◌, Bool, false, List, [], length, get_or, refl, ◌∙◌}
 use Rattle.tcel_core.specs.declared.row.Row.{Row}
-use Rattle.tcel_core.specs.Rows.{stands_in}
 use Rattle.tcel_flow.specs.declared.step.Step.{Step}
 use Rattle.tcel_flow.specs.declared.step.Step.TheVariants as steps
-use Rattle.tcel_flow.specs.Backward.{Goes, IsStart, from_end}
-use Rattle.tcel_flow.specs.Shape.{IsRow}
+use Rattle.tcel_flow.specs.Backward.{IsStart, from_end}
 use Rattle.tcel_flow.proofs.Backward.{past_item, past_choice, passes, passes_all, passes_none}
 use Rattle.tcel_slice.specs.declared.keeping.Needed.{Needed}
-use Rattle.tcel_slice.specs.Keeping.{Known, before_item, before_test, test_reads, keep_item, keeping, marked, have_common, IsNeeded, IsKnown, Went, Keeps, Passed, Leaves, Steps}
+use Rattle.tcel_slice.specs.Keeping.{Known, before_test, test_reads, keep_item, keeping, IsNeeded, IsKnown, Went, Keeps, Leaves, Steps}
 
 -- ---- along steps
 

@@ -1,7 +1,6 @@
 -- Which items are kept, as a walk from the end finds it.
-use Rattle.std.specs.Prelude.{◌≡◌, ℕ, ◌+◌, ◌<◌, Bool, true, false, not, ◌==◌, ◌&&◌, ◌||◌, List, [], ◌∷◌, length, slice_index_or, if◌then◌else◌}
+use Rattle.std.specs.Prelude.{◌≡◌, ℕ, ◌+◌, ◌<◌, Bool, false, not, ◌==◌, ◌&&◌, ◌||◌, List, [], ◌∷◌, length, slice_index_or, if◌then◌else◌}
 use Rattle.std.specs.List.{list_any}
-use Rattle.tcel_core.specs.declared.row.Row.{Row}
 use Rattle.tcel_core.specs.Numbering.{numbers_from}
 use Rattle.tcel_core.specs.Rows.{stands_in}
 use Rattle.tcel_flow.specs.declared.step.Step.{Step}

@@ -34,7 +34,7 @@ pub fn kept(alloc: Global, task: &CoreTask, flow: &Flow) -> Result<ItemSet, NoMe
 }
 
 /// How many items there are.
-fn count_items(steps: &[Step]) -> usize
+pub(crate) fn count_items(steps: &[Step]) -> usize
     ensures { result ≡ items_in steps.now }
 {
     let mut count: usize = 0;
@@ -48,15 +48,20 @@ fn count_items(steps: &[Step]) -> usize
 
 /// The variables that kept items need which stand behind a place, and whether one stands in the branch so far.
 #[derive(Clone, Copy, Debug)]
-struct Needed {
-    row: Row,
-    holds: bool,
+pub(crate) struct Needed {
+    pub(crate) row: Row,
+    pub(crate) holds: bool,
 }
 
 /// Goes from behind the last of so many steps to the start of the branch that they end in, and marks the kept items: how
 /// many steps stand before it, and what is needed there.
 #[cycle(keeping)]
-fn before_branch(steps: &[Step], count: usize, behind: Needed, list: &mut Items<bool>) -> (usize, Needed)
+pub(crate) fn before_branch(
+    steps: &[Step],
+    count: usize,
+    behind: Needed,
+    list: &mut Items<bool>,
+) -> (usize, Needed)
     requires { count ≤ length steps.now }
     ensures within { result.0 ≤ count }
     ensures start { IsStart (from_end steps.now result.0) }
@@ -83,7 +88,12 @@ fn before_branch(steps: &[Step], count: usize, behind: Needed, list: &mut Items<
 
 /// Goes from the end of the second branch of an `if` to what stands before it.
 #[cycle(keeping)]
-fn before_choice(steps: &[Step], count: usize, behind: Needed, list: &mut Items<bool>) -> (usize, Needed)
+fn before_choice(
+    steps: &[Step],
+    count: usize,
+    behind: Needed,
+    list: &mut Items<bool>,
+) -> (usize, Needed)
     requires { count ≤ length steps.now }
     ensures within { result.0 ≤ count }
     ensures leaves { Leaves (from_end steps.now count) (from_end steps.now result.0) behind list.old result.1 list.new }
@@ -157,9 +167,9 @@ fn before_test(step: &Step, behind: Needed, second: Needed, first: Needed) -> Ne
 {
     let mut row = first.row;
     row.add(&second.row);
-    if let Step::Open { reads, .. } = step {
+    if let Step::Open { reads: tested, .. } = step {
         if first.holds {
-            row.add(reads);
+            row.add(tested);
         }
     }
     Needed {

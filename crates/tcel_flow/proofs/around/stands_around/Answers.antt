@@ -1,6 +1,5 @@
-use Rattle.std.proofs.Common.{◌≡◌, sym, ap, ◌∙◌, subst, length, ◌≤◌}
+use Rattle.std.proofs.Common.{sym, ◌∙◌}
 use Rattle.tcel_core.specs.Plain.{plain_body}
-use Rattle.tcel_flow.specs.Around.{is_around}
 use Rattle.tcel_flow.proofs.Nesting.{answers, found_there, none_left}
 use Rattle.tcel_flow.proofs.around.stands_around.Goals as goal
 

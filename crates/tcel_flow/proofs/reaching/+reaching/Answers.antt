@@ -1,4 +1,4 @@
-use Rattle.std.proofs.Common.{◌≡◌, ◌<◌, ◌≤◌, length, refl, arith, inl, inr}
+use Rattle.std.proofs.Common.{◌<◌, ◌≤◌, length, arith, inl, inr}
 use Rattle.tcel_flow.specs.declared.step.Step.TheVariants as steps
 use Rattle.tcel_flow.specs.Reaching.{reaching}
 use Rattle.tcel_flow.proofs.Backward.{starts, past_item, past_choice, passes, passes_all}

@@ -1,9 +1,6 @@
-use Rattle.std.proofs.Common.{◌≡◌, ◌<◌, sym, subst, length, arith}
+use Rattle.std.proofs.Common.{◌<◌, sym, subst, arith}
 use Rattle.tcel_core.specs.Plain.{plain_body, plain_task}
-use Rattle.tcel_flow.specs.declared.reaching.Found.{Found}
-use Rattle.tcel_flow.specs.declared.step.Step.{Step}
-use Rattle.tcel_flow.specs.Backward.{Goes, IsStart, from_end}
-use Rattle.tcel_flow.specs.Reaching.{plain_use, reaching}
+use Rattle.tcel_flow.specs.Reaching.{plain_use}
 use Rattle.tcel_flow.specs.Shape.{AreSteps, places}
 use Rattle.tcel_flow.proofs.Reached.{answered, none_past}
 use Rattle.tcel_flow.proofs.reaching.reaches.Goals as goal

@@ -1,4 +1,4 @@
-use Rattle.std.proofs.Common.{◌≡◌, ◌<◌, ◌≤◌, length, refl, arith, inl, inr}
+use Rattle.std.proofs.Common.{◌<◌, ◌≤◌, length, arith, inl, inr}
 use Rattle.tcel_flow.specs.declared.step.Step.TheVariants as steps
 use Rattle.tcel_flow.proofs.Backward.{starts}
 use Rattle.tcel_slice.specs.Keeping.{keeping}

@@ -1,9 +1,9 @@
-use Rattle.std.proofs.Common.{◌≡◌, ℕ, Bool, false, List, length, replicate, refl, sym, ap, ◌∙◌, subst}
+use Rattle.std.proofs.Common.{◌≡◌, Bool, false, List, length, replicate, refl, sym, ap, ◌∙◌, subst}
 use Rattle.std.proofs.lemmas.List.{length-replicate}
 use Rattle.tcel_core.specs.Numbering.{item_numbers}
 use Rattle.tcel_core.specs.Plain.{plain_body, plain_task}
 use Rattle.tcel_flow.specs.Shape.{AreSteps, places}
-use Rattle.tcel_slice.specs.Keeping.{items_in, marked}
+use Rattle.tcel_slice.specs.Keeping.{marked}
 use Rattle.tcel_slice.proofs.Answer.{kept_set, items_counted, none_marked}
 use Rattle.tcel_slice.proofs.keeping.kept.Goals as goal
 
