@@ -1,1 +1,4 @@
+pub mod Backward
 pub mod Extending
+pub mod Nesting
+pub mod Reached

@@ -1,1 +1,4 @@
+pub mod Around
+pub mod Backward
+pub mod Reaching
 pub mod Shape

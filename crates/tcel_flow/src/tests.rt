@@ -1,4 +1,4 @@
-use crate::{Step, flow_of};
+use crate::{Step, Use, flow_of, reaches, stands_around, worked_task};
 use sqlite_items::{Boxed, Items};
 use std::alloc::Global;
 use std::test::Fail;
@@ -115,6 +115,47 @@ fn the_shape_of_a_body(rt: HostRuntime) -> Result<(), Fail> {
     assert_eq!(rt; flow.shape.len(), steps.len());
     for i in 0..steps.len() {
         assert_eq!(rt; seen(flow.shape.as_slice()[i]), steps[i]);
+    }
+    Ok(())
+}
+
+// Who reaches whom in the worked task: the item, the use and the variable.
+const REACHING: [(u32, Use, u32); 5] = [
+    (0, Use::Test(0), 2),
+    (0, Use::Item(1), 2),
+    (1, Use::Item(2), 1),
+    (3, Use::Item(4), 1),
+    (5, Use::Item(6), 1),
+];
+
+#[test]
+fn who_reaches_whom(rt: HostRuntime) -> Result<(), Fail> {
+    let alloc = rt.alloc();
+    let task = worked_task(alloc)?;
+    let flow = flow_of(alloc, &task)?;
+    for from in 0..9 {
+        for var in [0, 1, 2, 3, 255, 256, 258] {
+            for to in 0..9 {
+                for user in [Use::Item(to), Use::Test(to)] {
+                    let wanted = REACHING.iter().any(|x| *x == (from, user, var));
+                    assert_eq!(rt; reaches(&task, &flow, from, user, var), wanted);
+                }
+            }
+        }
+    }
+    Ok(())
+}
+
+#[test]
+fn which_tests_stand_around(rt: HostRuntime) -> Result<(), Fail> {
+    let alloc = rt.alloc();
+    let task = worked_task(alloc)?;
+    let flow = flow_of(alloc, &task)?;
+    for item in 0..9 {
+        for test in 0..3 {
+            let wanted = item >= 1 && item <= 4 && test == 0;
+            assert_eq!(rt; stands_around(&task, &flow, item, test), wanted);
+        }
     }
     Ok(())
 }

@@ -6,7 +6,7 @@ use Rattle.std.proofs.Math.Bool.{or_assoc, or-false}
 use Rattle.std.proofs.lemmas.Bool.{true≢false, or_left, or_right}
 use Rattle.std.proofs.lemmas.List.Folds.{list_any-append}
 use Rattle.tcel_core.specs.Contents.{act_has_event}
-use Rattle.tcel_core.specs.Kept.{Use, by_item, by_test, is_item, is_use, reaches, holds_item, stands_around, stmt_stands_around, IsKeptSet}
+use Rattle.tcel_core.specs.Kept.{Use, by_item, by_test, is_item, is_use, reaches, holds_item, stands_around, stmt_stands_around, IsClosed, IsKeptSet}
 use Rattle.tcel_core.specs.Kinds.{Slicing, is_kept_item, holds_kept, reads_inside, reads_outside, writes_inside, writes_outside, is_kind_1, is_kind_2, is_kind_3, is_state_variable, is_live}
 use Rattle.tcel_core.specs.Language.{Expr, Block, done, next, Stmt, item, choice, timed, Act}
 use Rattle.tcel_core.specs.Paths.{Point, at_item, at_test, points, stmt_points, point_reads, point_writes, meets, behind, on_some_path}
@@ -253,18 +253,11 @@ kept_among s b h = let r = in_from_any (is_kept_item s) (points b) h in chosen r
     chosen (at_item n act) there kept = (n, kept, any_from_in (is_item n) (points b) (at_item n act) there (eq-eqb n n refl))
     chosen (at_test n test held other) there kept = absurd (true≢false (sym kept))
 
--- a body by its kept set: nothing is needed behind it, the states are wanted, and nothing is ahead
-pub whole : (s : Slicing) → IsKeptSet s.body s.kept → InBlock s s.body (λ v. false) (is_state_variable s.vars) (λ v. false)
-whole s set =
-    record {
-      inside = λ p h. h;
-      keeps = λ n v h. kept_by n v (behind_found (λ p. is_item n p && point_writes p v) (reads_inside s v) (λ p. point_writes p v) s.body false h);
-      lives = λ n v kind h.
-          and_true (is_kind_3 s v)
-          (on_some_path (behind (λ p. is_item n p && writes_inside s v p) (meets (reads_outside s v) (λ p. point_writes p v) (is_state_variable s.vars v))) s.body) kind
-          (any_behind (λ p. is_item n p && writes_inside s v p) (reads_outside s v) (λ p. point_writes p v) s.body (is_state_variable s.vars v) ∙ h);
-      settles = λ v k. late_none (reads_outside s v) (writes_inside s v) (points s.body) ∙ not_false _ (and_both _ _ k).1;
-    }
+-- a closed set has each item that writes what one of its items, or a test around one, needs behind it
+pub closed_keeps : (s : Slicing) → IsClosed s.body s.kept → (n v : ℕ) →
+    row_behind (λ p. is_item n p && point_writes p v) (reads_inside s v) (λ p. point_writes p v) s.body false ≡ true → s.kept n ≡ true
+closed_keeps s closed n v h =
+    kept_by n v (behind_found (λ p. is_item n p && point_writes p v) (reads_inside s v) (λ p. point_writes p v) s.body false h)
   where
     use_of : Point → Use
     use_of (at_item k act) = by_item k
@@ -282,16 +275,16 @@ whole s set =
         ∙ other (λ q. is_use (use_of p) q && point_reads q v) (uses_it p v reads) false
 
     by_point : (n v : ℕ) (p : Point) → In (points s.body) p → reads_inside s v p ≡ true → reaches s.body n (use_of p) v ≡ true → s.kept n ≡ true
-    by_point n v (at_item k act) there reads reach = set.closed.for_items n k v (and_both (s.kept k) (act_reads act v) reads).0 reach
+    by_point n v (at_item k act) there reads reach = closed.for_items n k v (and_both (s.kept k) (act_reads act v) reads).0 reach
     by_point n v (at_test k test held other) there reads reach =
         elim (either (holds_kept s held) (holds_kept s other) (and_both (holds_kept s held || holds_kept s other) (expr_reads test v) reads).0) [
           | inl first ↦
               let r = kept_among s held first in
-              set.closed.for_tests n r.0 k v r.1
+              closed.for_tests n r.0 k v r.1
               (around s.body k r.0 (at_test k test held other) there (and_true (k == k) (holds_item held r.0 || holds_item other r.0) (eq-eqb k k refl) (or_left (holds_item held r.0) (holds_item other r.0) r.2))) reach
           | inr second ↦
               let r = kept_among s other second in
-              set.closed.for_tests n r.0 k v r.1
+              closed.for_tests n r.0 k v r.1
               (around s.body k r.0 (at_test k test held other) there (and_true (k == k) (holds_item held r.0 || holds_item other r.0) (eq-eqb k k refl) (or_right (holds_item held r.0) (holds_item other r.0) r.2))) reach
         ]
 
@@ -301,6 +294,19 @@ whole s set =
         s.kept n ≡ true
     kept_by n v (inl m) = by_point n v m.point m.there m.hits (reached n v m.point m.other m.hits)
     kept_by n v (inr p) = absurd (true≢false (sym p.ends))
+
+-- a body by its kept set: nothing is needed behind it, the states are wanted, and nothing is ahead
+pub whole : (s : Slicing) → IsKeptSet s.body s.kept → InBlock s s.body (λ v. false) (is_state_variable s.vars) (λ v. false)
+whole s set =
+    record {
+      inside = λ p h. h;
+      keeps = closed_keeps s set.closed;
+      lives = λ n v kind h.
+          and_true (is_kind_3 s v)
+          (on_some_path (behind (λ p. is_item n p && writes_inside s v p) (meets (reads_outside s v) (λ p. point_writes p v) (is_state_variable s.vars v))) s.body) kind
+          (any_behind (λ p. is_item n p && writes_inside s v p) (reads_outside s v) (λ p. point_writes p v) s.body (is_state_variable s.vars v) ∙ h);
+      settles = λ v k. late_none (reads_outside s v) (writes_inside s v) (points s.body) ∙ not_false _ (and_both _ _ k).1;
+    }
 
 -- an item outside the kept set has no event
 pub no_event : (s : Slicing) → IsKeptSet s.body s.kept → (n : ℕ) (act : Act) → In (points s.body) (at_item n act) → s.kept n ≡ false → act_has_event act ≡ false

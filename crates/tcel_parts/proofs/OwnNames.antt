@@ -82,7 +82,7 @@ module _ (names : Names) where
 module _ (here hit stop : Point → Bool) where
   mutual
     -- behind a point there is this point
-    point_behind : (b : Block) (end : Bool) → row_behind here hit stop b end ≡ true → (p : Point) × In (points b) p × (here p ≡ true)
+    pub point_behind : (b : Block) (end : Bool) → row_behind here hit stop b end ≡ true → (p : Point) × In (points b) p × (here p ≡ true)
     point_behind done end h = absurd (true≢false (sym h))
     point_behind (next t rest) end h =
         elim (either (stmt_row_behind here hit stop t (row hit stop rest end)) (row_behind here hit stop rest end) h) [

@@ -1,0 +1,6 @@
+pub mod Common
+pub mod Walk
+pub mod Marks
+pub mod Closed
+pub mod Least
+pub mod Answer
