@@ -1,0 +1,4 @@
+mod Forms
+pub mod Walking
+pub mod SeeExprs
+pub mod SeeStmts
