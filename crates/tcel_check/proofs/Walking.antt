@@ -4,7 +4,8 @@ use Rattle.std.specs.List.{fold, AllByRecursion}
 use Rattle.tcel_tree.specs.declared.task.DeclKind.{DeclKind}
 use Rattle.tcel_check.specs.declared.walk.Walk.{Walk}
 use Rattle.tcel_check.specs.Sights.{Sight}
-use Rattle.tcel_check.specs.Walks.{Saw, IsSpelled, behind}
+use Rattle.tcel_check.specs.Spelled.{IsSpelled}
+use Rattle.tcel_check.specs.Walks.{Saw, behind}
 
 pub fold_append : {A B : Type 0} (f : B → A → B) (xs ys : List A) (b : B) → fold f b (xs ++ ys) ≡ fold f (fold f b xs) ys
 fold_append f [] ys b = refl

@@ -23,13 +23,13 @@ abbrev pub when : {A : Type 0} → Bool → A → List A
 when true x = x ∷ []
 when false x = []
 
+abbrev pub limit_at : LimitKind → Option At → List Mark
+limit_at kind None = []
+limit_at kind (Some at) = limit kind at ∷ []
+
 -- a limit that stands at the place with this number, where there are so many
 abbrev pub past : LimitKind → ℕ → List At → List Mark
-past kind n places = at_most (slice_get places n)
-  where
-    at_most : Option At → List Mark
-    at_most None = []
-    at_most (Some at) = limit kind at ∷ []
+past kind n places = limit_at kind (slice_get places n)
 
 -- those that are like one before them
 abbrev pub repeats_behind : {A : Type 0} → (A → A → Bool) → List A → List A → List A
@@ -86,8 +86,11 @@ abbrev pub many_names : Task → List Mark
 many_names t = past Variables 256 (map at_decl t.decls)
 
 -- limit words
+abbrev pub word_mark : Decl → Mark
+word_mark d = limit Words d.at
+
 abbrev pub many_words : Task → List Mark
-many_words t = map (λ (d : Decl). limit Words d.at) (passing 0 t.decls)
+many_words t = map word_mark (passing 0 t.decls)
 
 -- limit nodes
 abbrev pub many_nodes : Task → List Mark
@@ -101,14 +104,20 @@ many_windows t = past Windows 31 (flat_map window_places (task_sights t))
 abbrev pub same_task : Task → Task → Bool
 same_task a b = same_name a.name b.name
 
+abbrev pub twice_task : Task → Mark
+twice_task t = fault Twice t.at
+
 abbrev pub twice_tasks : List Task → List Mark
-twice_tasks tasks = map (λ (t : Task). fault Twice t.at) (repeats same_task tasks)
+twice_tasks tasks = map twice_task (repeats same_task tasks)
 
 abbrev pub same_decl : Decl → Decl → Bool
 same_decl a b = same_name a.name b.name
 
+abbrev pub twice_mark : Decl → Mark
+twice_mark d = fault Twice d.at
+
 abbrev pub twice_names : Task → List Mark
-twice_names t = map (λ (d : Decl). fault Twice d.at) (repeats same_decl t.decls)
+twice_names t = map twice_mark (repeats same_decl t.decls)
 
 -- Unknown
 abbrev pub unknown_name : (List ℕ → Option DeclKind) → Sight → List Mark
@@ -160,8 +169,11 @@ deep_loop _ = []
 abbrev pub same_priority : Task → Task → Bool
 same_priority a b = int_eq a.priority.value b.priority.value
 
+abbrev pub priority_mark : Task → Mark
+priority_mark t = fault SamePriority t.priority.at
+
 abbrev pub same_priorities : List Task → List Mark
-same_priorities tasks = map (λ (t : Task). fault SamePriority t.priority.at) (repeats same_priority tasks)
+same_priorities tasks = map priority_mark (repeats same_priority tasks)
 
 -- BadBound
 abbrev pub bad_bound : Sight → List Mark

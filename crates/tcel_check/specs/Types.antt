@@ -42,7 +42,7 @@ same_name = pointwise nat_eq
 -- what the first declaration of a name says, where there is one
 abbrev pub kind_of : List Decl → List ℕ → Option DeclKind
 kind_of [] name = None
-kind_of (d ∷ ds) name = if same_name name d.name then Some d.kind else kind_of ds name
+kind_of (d ∷ ds) name = if same_name d.name name then Some d.kind else kind_of ds name
 
 -- the type of the values that a name takes: a scalar variable's
 abbrev pub type_of : Option DeclKind → Option ValueType

@@ -1,25 +1,17 @@
 -- What a walk through a body keeps: the least mark so far, and how many nodes and `do` blocks may still come.
-use Rattle.std.specs.Prelude.{◌≡◌, ℕ, ◌-◌, ◌==◌, List, [], ◌∷◌, ◌++◌, Option, Some, None, if◌then◌else◌, fold, FitsSigned}
-use Rattle.std.specs.Int.{w64}
+use Rattle.std.specs.Prelude.{◌≡◌, ℕ, ◌-◌, ◌==◌, List, [], ◌∷◌, ◌++◌, Option, fold}
 use Rattle.std.specs.List.{AllByRecursion}
 use Rattle.tcel_num.specs.declared.at.At.{At}
-use Rattle.tcel_num.specs.Name.{IsName}
 use Rattle.tcel_tree.specs.declared.task.DeclKind.{DeclKind}
 use Rattle.tcel_check.specs.declared.fail.LimitKind.{LimitKind}
 use Rattle.tcel_check.specs.declared.fail.LimitKind.TheVariants.{Nodes, Windows}
 use Rattle.tcel_check.specs.declared.mark.Mark.{Mark}
 use Rattle.tcel_check.specs.declared.walk.Walk.{Walk}
-use Rattle.tcel_check.specs.Marks.{limit, precedes}
+use Rattle.tcel_check.specs.Least.{kept_all}
+use Rattle.tcel_check.specs.Marks.{limit}
 use Rattle.tcel_check.specs.Rows.{sight_marks, when}
-use Rattle.tcel_check.specs.Sights.{Sight, node, literal, value, name, window, loop, bound}
-
--- the first of two
-abbrev pub kept : Option Mark → Mark → Option Mark
-kept None m = Some m
-kept (Some first) m = Some (if precedes m first then m else first)
-
-abbrev pub kept_all : Option Mark → List Mark → Option Mark
-kept_all least ms = fold kept least ms
+use Rattle.tcel_check.specs.Spelled.{IsSpelled}
+use Rattle.tcel_check.specs.Sights.{Sight, node, window}
 
 -- a limit that stands here where just one more may come
 abbrev pub last : LimitKind → ℕ → At → List Mark
@@ -45,12 +37,6 @@ behind kind w s =
       windows = windows_behind w.windows s;
       least = kept_all w.least (counted w s ++ sight_marks kind s);
     }
-
--- what a text can spell: names are names, and numbers fit 64 bits
-abbrev pub IsSpelled : Sight → Type 0
-IsSpelled (literal at n wanted) = FitsSigned w64 n
-IsSpelled (name at x purpose) = IsName x
-IsSpelled _ = Unit {0}
 
 -- a walk through these sights
 pub record Saw (kind : List ℕ → Option DeclKind) (old new : Walk) (sights : List Sight) : Type 0 where

@@ -4,10 +4,13 @@
 mod examples;
 mod exprs;
 mod fail;
+mod head;
+mod least;
 mod mark;
 mod names;
 mod purpose;
 mod stmts;
+mod tasks;
 mod value_type;
 mod walk;
 

@@ -11,17 +11,13 @@ ghost use Rattle.tcel_tree.specs.Plain.{plain_block, plain_expr, plain_stmt};
 use crate::names::Names;
 use crate::purpose::Purpose;
 use crate::value_type::ValueType;
-use crate::walk::{Walk, scalar_type};
+use crate::walk::{MOST_COUNT, MOST_TIME, Walk, scalar_type};
 use tcel_num::{At, Name};
 use tcel_tree::{Expr, Placed, Stmt, StmtKind, Window};
 
 const INT: Option<ValueType> = Some(ValueType::Int);
 
 const BOOL: Option<ValueType> = Some(ValueType::Bool);
-
-const MOST_TIME: i64 = 1_000_000_000;
-
-const MOST_TURNS: i64 = 4096;
 
 impl Walk {
     /// Statements inside this many loops.
@@ -79,13 +75,13 @@ impl Walk {
             } => {
                 self.enter(stmt.at, loops);
                 self.name(names, *name_at, name, Purpose::Scalar(INT));
-                self.bound(turns, MOST_TURNS);
+                self.bound(turns, MOST_COUNT);
                 self.block(names, body.as_slice(), inside(loops));
             }
             StmtKind::While { test, turns, body } => {
                 self.enter(stmt.at, loops);
                 self.expr(names, test, BOOL);
-                self.bound(turns, MOST_TURNS);
+                self.bound(turns, MOST_COUNT);
                 self.block(names, body.as_slice(), inside(loops));
             }
             StmtKind::Do { window, body } => {

@@ -1,12 +1,14 @@
 ghost use Rattle.std.specs.Prelude.{◌≡◌, ℕ, List, Option, [], ◌∷◌, pos};
+ghost use Rattle.tcel_check.specs.Least.{kept_all};
 ghost use Rattle.tcel_check.specs.Known.{kind_in};
 ghost use Rattle.tcel_check.specs.Rows.{is_of_type, is_port, when, whole};
 ghost use Rattle.tcel_check.specs.Sights as sights;
 ghost use Rattle.tcel_check.specs.Types.{is_wanted, scalar_type};
-ghost use Rattle.tcel_check.specs.Walks.{Saw, kept, kept_all};
+ghost use Rattle.tcel_check.specs.Walks.{Saw};
 ghost use Rattle.tcel_tree.specs.declared.task.DeclKind.{DeclKind};
 
 use crate::fail::{CheckKind, LimitKind};
+use crate::least::keep;
 use crate::mark::{Mark, Row};
 use crate::names::Names;
 use crate::purpose::Purpose;
@@ -14,31 +16,24 @@ use crate::value_type::ValueType;
 use tcel_num::{At, Name};
 use tcel_tree::{DeclKind, Placed};
 
+/// The greatest period and bound, in ticks.
+pub const MOST_TIME: i64 = 1_000_000_000;
+/// The most turns of a loop, and elements of an array.
+pub const MOST_COUNT: i64 = 4096;
+
 /// A walk through a task: the first mark so far, and how many more nodes and `do` blocks there are up to the one too many.
-#[derive(Debug)]
+#[derive(Debug, Drop)]
 pub struct Walk {
     pub nodes: u32,
     pub windows: u32,
     pub least: Option<Mark>,
 }
 
-/// The first of two marks.
-fn first_of(least: Option<Mark>, mark: Mark) -> Option<Mark>
-    ensures { result ≡ kept least mark }
-{
-    match least {
-        Some(first) if !mark.precedes(&first) => Some(first),
-        _ => Some(mark),
-    }
-}
-
 impl Walk {
     fn keep(&mut self, found: bool, row: Row, at: At)
         ensures { self.new ≡ record self.old { least = kept_all self.old.least (when found (record { row = row; at = at })) } }
     {
-        if found {
-            self.least = first_of(self.least, Mark { row, at });
-        }
+        keep(&mut self.least, found, row, at);
     }
 
     /// A statement or an expression.
