@@ -1,6 +1,8 @@
-ghost use Rattle.std.specs.Prelude.{◌≡◌, OnOk, map};
+ghost use Rattle.std.specs.Prelude.{◌≡◌, IfOk, OnOk, flat_map, map};
+ghost use Rattle.std.specs.List.{AllByRecursion};
+ghost use Rattle.tcel_check.specs.Marks.{IsFirst};
 ghost use Rattle.tcel_check.specs.Least.{Adds};
-ghost use Rattle.tcel_check.specs.Rows.{many_tasks, same_priorities, task_marks, twice_tasks};
+ghost use Rattle.tcel_check.specs.Rows.{many_tasks, marks, same_priorities, task_marks, twice_tasks};
 ghost use Rattle.tcel_check.specs.Sights.{head_sights};
 ghost use Rattle.tcel_check.specs.Spelled.{IsSpelledTask};
 ghost use Rattle.tcel_check.specs.Walks.{Saw};
@@ -82,4 +84,27 @@ pub fn task_marks(alloc: Global, task: &Task, least: &mut Option<Mark>) -> Resul
     walk.block(&names, task.body.as_slice(), 0);
     *least = walk.least;
     Ok(())
+}
+
+fn each_task(alloc: Global, tasks: &[Task], least: &mut Option<Mark>) -> Result<(), NoMemory>
+    ensures marks { OnOk result (Adds least.old least.new (flat_map task_marks (map plain_task tasks.now))) }
+    ensures spelled { OnOk result (AllByRecursion IsSpelledTask (map plain_task tasks.now)) }
+{
+    for task in tasks {
+        task_marks(alloc, task, least)?;
+    }
+    Ok(())
+}
+
+/// The first fault or limit of a program, where there is one.
+pub fn first_mark(alloc: Global, tasks: &[Task]) -> Result<Option<Mark>, NoMemory>
+    ensures first { IfOk result (λ least. IsFirst (marks (map plain_task tasks.now)) least) }
+    ensures spelled { OnOk result (AllByRecursion IsSpelledTask (map plain_task tasks.now)) }
+{
+    let mut least = None;
+    many_tasks(tasks, &mut least);
+    twice_tasks(alloc, tasks, &mut least)?;
+    same_priorities(alloc, tasks, &mut least)?;
+    each_task(alloc, tasks, &mut least)?;
+    Ok(least)
 }
