@@ -7,3 +7,10 @@ pub mod SameNames
 pub mod Heads
 pub mod Counting
 pub mod TaskMarks
+pub mod Lists
+pub mod Clean
+pub mod NumberedNames
+pub mod SoundExprs
+pub mod SoundBlocks
+pub mod SoundNumbers
+pub mod SoundCounts

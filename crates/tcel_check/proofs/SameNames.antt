@@ -31,6 +31,10 @@ name_equal (x ∷ xs) (y ∷ ys) h =
     let first = same_digit x y (and_left (nat_eq x y) (same_name xs ys) h) in
     let others = name_equal xs ys (and_right (nat_eq x y) (same_name xs ys) h) in cc
 
+pub name_self : (a : List ℕ) → same_name a a ≡ true
+name_self [] = refl
+name_self (x ∷ xs) = let first : nat_eq x x ≡ true = grind (arith, nat_tests) in rw (first, name_self xs) refl
+
 pub name_sym : (a b : List ℕ) → same_name a b ≡ same_name b a
 name_sym [] [] = refl
 name_sym [] (y ∷ ys) = refl
