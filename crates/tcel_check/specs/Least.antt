@@ -1,0 +1,16 @@
+-- The first mark so far.
+use Rattle.std.specs.Prelude.{List, [], ◌∷◌, ◌++◌, Option, Some, None, if◌then◌else◌, fold}
+use Rattle.tcel_check.specs.declared.mark.Mark.{Mark}
+use Rattle.tcel_check.specs.Marks.{IsFirst, precedes}
+
+-- the first of two
+abbrev pub kept : Option Mark → Mark → Option Mark
+kept None m = Some m
+kept (Some first) m = Some (if precedes m first then m else first)
+
+abbrev pub kept_all : Option Mark → List Mark → Option Mark
+kept_all least ms = fold kept least ms
+
+-- behind any marks, with these ones too, the first mark goes from the old to the new
+pub record Adds (old new : Option Mark) (more : List Mark) : Type 0 where
+  pub first : (before : List Mark) → IsFirst before old → IsFirst (before ++ more) new

@@ -1,0 +1,11 @@
+pub mod Known
+pub mod Marks
+pub mod Types
+pub mod Sights
+pub mod Rows
+pub mod Least
+pub mod Spelled
+pub mod Walks
+pub mod Checked
+pub mod Answers
+pub mod Examples

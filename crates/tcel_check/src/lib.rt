@@ -1,0 +1,23 @@
+//! Checked sets: the faults and limits of a program, and the core tasks of one that has none (docs/language.md).
+#![tactic(auto)]
+
+mod examples;
+mod exprs;
+mod fail;
+mod head;
+mod least;
+mod mark;
+mod names;
+mod purpose;
+mod stmts;
+mod tasks;
+mod value_type;
+mod walk;
+
+pub use examples::{bound_examples, limit_examples, name_examples, order_examples, set_examples};
+pub use fail::{CheckFail, CheckKind, LimitKind};
+pub use mark::{Mark, Row};
+pub use names::Names;
+pub use purpose::Purpose;
+pub use value_type::{ValueType, operand_type, result_type};
+pub use walk::Walk;
