@@ -88,7 +88,13 @@ impl Task {
     {
         let value = self.stack.pop();
         let index = self.stack.pop();
-        set_element(self.cells.as_mut_slice(), first as usize, size as usize, index, value);
+        set_element(
+            self.cells.as_mut_slice(),
+            first as usize,
+            size as usize,
+            index,
+            value,
+        );
         self.go_on();
     }
 
@@ -136,7 +142,12 @@ impl Task {
         requires to { HasCells to size (running_of self.old) }
         ensures { Becomes self.old self.new (go_on self.old.stack (copied self.old.cells.items from to size) (running_of self.old)).task }
     {
-        copy(self.cells.as_mut_slice(), from as usize, to as usize, size as usize);
+        copy(
+            self.cells.as_mut_slice(),
+            from as usize,
+            to as usize,
+            size as usize,
+        );
         self.go_on();
     }
 
