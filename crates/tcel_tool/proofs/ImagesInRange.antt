@@ -26,8 +26,8 @@ use Rattle.tcel_tool.specs.declared.plain_tree.PlainExpr.{PlainExpr}
 use Rattle.tcel_tool.specs.declared.plain_tree.PlainExpr.TheVariants as exprs
 use Rattle.tcel_tool.specs.declared.plain_tree.Operand.{Operand}
 use Rattle.tcel_tool.specs.declared.plain_tree.Operand.TheVariants as operands
-use Rattle.tcel_tool.specs.Code.{at, expr_code, whole_code}
-use Rattle.tcel_tool.specs.Layout.{image_of, image_task, state_of}
+use Rattle.tcel_code.specs.Code.{at, expr_code, whole_code}
+use Rattle.tcel_code.specs.Layout.{image_of, image_task, state_of}
 use Rattle.tcel_tool.specs.PlainTree.{IsPlain, IsWritable, StmtIsPlain, StmtIsWritable, ExprIsPlain, ExprIsWritable, OperandIsPlain, OperandIsWritable, block_from, expr_of, index_of, is_kind, names_of, operand_of, set_of, task_of, var_of, variable_names, vars_of}
 use Rattle.tcel_tool.proofs.Places.{all_words-vars, below, names_of-most, place-vars, variables-length}
 use Rattle.tcel_tool.proofs.Straight.{block_code-straight, lines_of, loops_none, states_of_vars}

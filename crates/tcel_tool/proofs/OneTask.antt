@@ -5,7 +5,7 @@ use Rattle.tcel_core.specs.Language.{Task}
 use Rattle.tcel_target.specs.declared.costs.Costs.{Costs}
 use Rattle.tcel_num.specs.Hyperperiod.{IsHyperperiod, demand}
 use Rattle.tcel_demand.proofs.Hyperperiods.{only_hyperperiod, own_demand}
-use Rattle.tcel_tool.specs.WholePlan.{IsWholePlan, AreWholePlans}
+use Rattle.tcel_cost.specs.WholePlan.{IsWholePlan, AreWholePlans}
 use Rattle.tcel_tool.specs.declared.plain_tree.PlainTree.{PlainTree}
 use Rattle.tcel_tool.specs.PlainTree.{IsPlain, IsWritable, task_of, set_of}
 use Rattle.tcel_tool.specs.Headline.{KeepsItsPromise}

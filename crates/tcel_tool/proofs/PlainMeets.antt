@@ -1,5 +1,5 @@
 -- Every trace of a plain program's image meets the program.
-use Rattle.std.proofs.Common.{◌≡◌, ℕ, zero, suc, ◌+◌, ◌*◌, ◌<◌, ◌≤◌, ℤ, List, [], ◌∷◌, ◌++◌, length, length-append, map, refl, sym, ap, ◌∙◌, subst, arith, inl, inr}
+use Rattle.std.proofs.Common.{◌≡◌, ℕ, zero, suc, ◌+◌, ◌*◌, ◌<◌, ◌≤◌, List, [], ◌∷◌, ◌++◌, length, length-append, map, refl, ap, ◌∙◌, subst, arith, inl, inr}
 use Rattle.std.specs.Prelude.{◌⊎◌}
 use Rattle.std.specs.Prelude.{Contains}
 use Rattle.std.proofs.lemmas.List.{length-map}
@@ -14,15 +14,11 @@ use Rattle.tcel_num.specs.Arithmetic.{is_unary}
 use Rattle.std.proofs.Common.{false}
 use Rattle.tcel_num.specs.Plan.{Plan, Point, frame}
 use Rattle.tcel_num.specs.Schedule.{served}
-use Rattle.tcel_core.specs.Meets.{Meets}
-use Rattle.tcel_core.specs.Scope.{ActIsUntimed, ActFits, Fits, IsUntimed, HasWord, IsSound}
+use Rattle.tcel_core.specs.Scope.{ActIsUntimed, ActFits, Fits, IsUntimed, HasWord, IsSound, TaskFits}
 use Rattle.tcel_target.specs.declared.costs.Costs.{Costs}
-use Rattle.tcel_target.specs.Costs.{CostsInRange}
-use Rattle.tcel_image.specs.Machine.{Streams, trace}
-use Rattle.tcel_tool.specs.Headline.{CompiledProgramsMeetTheirSource, HasStreams}
-use Rattle.tcel_tool.specs.Layout.{image_of}
+use Rattle.tcel_tool.specs.Headline.{CompiledProgramsMeetTheirSource}
 use Rattle.tcel_tool.specs.PlainTree.{IsPlain, StmtIsPlain, ExprIsPlain, OperandIsPlain, names_of, variable_names, index_of, var_of, vars_of, operand_of, expr_of, act_of, block_from, task_of, set_of}
-use Rattle.tcel_tool.specs.WholePlan.{IsWholePlan}
+use Rattle.tcel_cost.specs.WholePlan.{IsWholePlan}
 use Rattle.tcel_tool.specs.declared.plain_tree.PlainTree.{PlainTree}
 use Rattle.tcel_tool.specs.declared.plain_tree.PlainDecl.{PlainDecl}
 use Rattle.tcel_tool.specs.declared.plain_tree.PlainStmt.{PlainStmt}
@@ -31,12 +27,17 @@ use Rattle.tcel_tool.specs.declared.plain_tree.PlainExpr.{PlainExpr}
 use Rattle.tcel_tool.specs.declared.plain_tree.PlainExpr.TheVariants as exprs
 use Rattle.tcel_tool.specs.declared.plain_tree.Operand.{Operand}
 use Rattle.tcel_tool.specs.declared.plain_tree.Operand.TheVariants as operands
-use Rattle.std.specs.List.{AllByRecursion, AllZip}
+use Rattle.std.specs.List.{AllByRecursion}
+use Rattle.std.specs.Prelude.{slice_get}
+use Rattle.std.proofs.lemmas.Bool.{cases_lt}
+use Rattle.std.proofs.lemmas.List.Elements.{All-nil, All-cons}
+use Rattle.tcel_num.specs.Lateness.{IsLate, IsNeverLate, IsResponse}
+use Rattle.tcel_demand.proofs.Hyperperiods.{own_hyperperiod, own_demand}
+use Rattle.tcel_demand.proofs.Responses.{never_late, no_more}
 use Rattle.tcel_demand.proofs.ServedAlone.{served_whole}
 use Rattle.tcel_tool.proofs.Places.{below}
-use Rattle.tcel_tool.proofs.BoundEvents.{EachPoint, no_points, untimed_loops}
-use Rattle.tcel_tool.proofs.WholeFrames.{Reaches}
-use Rattle.tcel_tool.proofs.WholeSets.{Serves, set_meets}
+use Rattle.tcel_cost.proofs.BoundEvents.{no_points, untimed_loops}
+use Rattle.tcel_code.proofs.NeverLateSets.{whole_sets_meet}
 
 -- ---- plain programs fit
 
@@ -104,48 +105,52 @@ block_untimed id decls (s ∷ ss) = (act_untimed decls s, block_untimed (id + 1)
 
 -- ---- the program and its image
 
--- what is so of the streams of the only task
-only_streams : (tree : PlainTree) (streams : Streams) → AllZip HasStreams (set_of tree) streams → (P : Streams → Type 0) →
-    ((its : List (List ℤ)) → length its ≡ length (task_of tree).inputs → P (its ∷ [])) → P streams
-only_streams tree [] each P h = absurd each
-only_streams tree (its ∷ []) each P h = h its each.0
-only_streams tree (its ∷ (others ∷ more)) each P h = absurd each.1
+-- a task of a checked program
+plain_fits : (tree : PlainTree) → IsPlain tree → TaskFits (task_of tree)
+plain_fits tree plain =
+    record {
+      period = let some = plain.period.0 in omega arith;
+      body = block_fits 0 tree.decls tree.body plain.statements;
+      loops = untimed_loops (task_of tree).body (block_untimed 0 tree.decls tree.body);
+    }
 
-module _ (tree : PlainTree) (costs : Costs) (plan : Plan) (plain : IsPlain tree) (ranges : CostsInRange costs) (whole : IsWholePlan (task_of tree) costs plan) (fits : plan.total ≤ plan.period)
-    (streams : List (List ℤ)) (long : length streams ≡ length (task_of tree).inputs) where
-  abbrev service : ℕ → ℕ
-  service time = served (plan ∷ []) time 0
+module _ (tree : PlainTree) (costs : Costs) (plan : Plan) (whole : IsWholePlan (task_of tree) costs plan) (positive : 0 < plan.period) (fits : plan.total ≤ plan.period) where
+  abbrev mark : Point
+  mark = record { prefix = whole.end + costs.mark; bound = tree.period; name = frame }
 
-  positive : 0 < plan.period
-  positive = let some = plain.period.0 in let same = whole.period in omega arith
+  -- the frame's point is the only one
+  one_point : plan.points ≡ mark ∷ []
+  one_point =
+      whole.points
+      ∙ ap (λ (l : List Point). mark ∷ l) (no_points (task_of tree).body (task_of tree).vars costs costs.dispatch whole.windows (block_untimed 0 tree.decls tree.body) whole.in_text)
 
-  -- a frame is served up to its mark by its deadline, which is its period
-  in_time : (f : ℕ) → f * plan.total + (whole.end + costs.mark) ≤ service (f * tree.period + tree.period)
-  in_time f =
-      let total = whole.total in
-      let there : suc f * plan.period ≡ f * tree.period + tree.period = ap (λ n. suc f * n) whole.period ∙ omega arith in
-      let h = subst (λ n. suc f * plan.total ≤ service n) there (served_whole plan positive fits (suc f)) in
-      omega arith
+  -- a frame is served up to its mark by the end of its period
+  in_time : (f response : ℕ) → IsResponse (plan ∷ []) (record { task = 0; frame = f; point = 0 }) plan mark response → response ≤ tree.period
+  in_time f response r =
+      elim (cases_lt tree.period response) [
+        | inl late ↦
+            let total = whole.total in
+            let end : suc f * plan.period ≡ f * plan.period + plan.period = omega arith in
+            let same : plan.period ≡ tree.period = whole.period in
+            let all = subst (λ n. suc f * plan.total ≤ served (plan ∷ []) n 0) end (served_whole plan positive fits (suc f)) in
+            let few = r.reached.before (f * plan.period + plan.period) (omega arith) in
+            absurd (omega arith)
+        | inr soon ↦ soon
+      ]
 
-  serves : Serves costs ranges (plan ∷ []) (streams ∷ []) 0 (task_of tree) plan
-  serves = record {
-    fits = block_fits 0 tree.decls tree.body plain.statements;
-    loops = untimed_loops (task_of tree).body (block_untimed 0 tree.decls tree.body);
-    positive = let some = plain.period.0 in omega arith;
-    whole = whole;
-    in_time =
-        λ f.
-        let mark_point : Point = record { prefix = whole.end + costs.mark; bound = tree.period; name = frame } in
-        let none = no_points (task_of tree).body (task_of tree).vars costs costs.dispatch whole.windows (block_untimed 0 tree.decls tree.body) whole.in_text in
-        let only = whole.points ∙ ap (λ (l : List Point). mark_point ∷ l) none in
-        subst (EachPoint (Reaches plan.total tree.period f service)) (sym only) (in_time f, tt);
-    long = long;
-  }
-
-  program_meets : (ticks : ℕ) → Meets (set_of tree) (plan ∷ []) (streams ∷ []) ticks (trace (image_of (set_of tree) costs) (streams ∷ []) ticks)
-  program_meets ticks = set_meets costs ranges (plan ∷ []) (streams ∷ []) (set_of tree) (serves, tt) ticks
+  never : IsNeverLate (plan ∷ [])
+  never place late = at place.task place.frame place.point late
+    where
+      at : (task f point : ℕ) → IsLate (plan ∷ []) (record { task = task; frame = f; point = point }) → ⊥
+      at zero f zero late = never_late (plan ∷ []) (record { task = 0; frame = f; point = 0 }) plan mark refl (ap (λ l. slice_get l 0) one_point) (λ response r. in_time f response r) late
+      at zero f (suc k) late = no_more (plan ∷ []) (record { task = 0; frame = f; point = suc k }) plan mark k refl one_point refl late
+      at (suc n) f point late = let e = late.3.of_task in cc
 
 pub plain_programs_meet : CompiledProgramsMeetTheirSource
-plain_programs_meet = λ tree costs plan plain ranges whole fits streams ticks each.
-    only_streams tree streams each (λ s. Meets (set_of tree) (plan ∷ []) s ticks (trace (image_of (set_of tree) costs) s ticks))
-    (λ its long. program_meets tree costs plan plain ranges whole fits its long ticks)
+plain_programs_meet = λ tree costs plan plain ranges whole fits.
+    let some = plain.period.0 in
+    let same : plan.period ≡ tree.period = whole.period in
+    let positive : 0 < plan.period = omega arith in
+    let all = own_demand plan positive in
+    whole_sets_meet (set_of tree) costs (plan ∷ []) plan.period (All-cons TaskFits (task_of tree) [] (plain_fits tree plain) (All-nil TaskFits)) ranges (whole, refl) (own_hyperperiod plan positive) (omega arith)
+    (never tree costs plan whole positive fits)

@@ -21,13 +21,13 @@ use Rattle.tcel_tool.specs.declared.plain_tree.PlainExpr.{PlainExpr}
 use Rattle.tcel_tool.specs.declared.plain_tree.PlainExpr.TheVariants as exprs
 use Rattle.tcel_tool.specs.declared.plain_tree.Operand.{Operand}
 use Rattle.tcel_tool.specs.declared.plain_tree.Operand.TheVariants as operands
-use Rattle.tcel_tool.specs.Layout.{image_of, image_task, state_of}
+use Rattle.tcel_code.specs.Layout.{image_of, image_task, state_of}
 use Rattle.tcel_tool.specs.PlainTree.{AreDistinct, IsPlain, StmtIsPlain, act_of, block_from, expr_of, is_kind, names_of, operand_of, set_of, task_of, var_of}
-use Rattle.tcel_tool.proofs.FitCode.{ActIsWithin, IsWithin, height}
+use Rattle.tcel_code.specs.Compilable.{ActIsWithin, IsCompilable, IsWithin, height}
 use Rattle.tcel_tool.proofs.Places.{below}
 use Rattle.tcel_tool.proofs.PlainMeets.{block_fits}
 use Rattle.tcel_tool.proofs.Straight.{states_of_vars}
-use Rattle.tcel_tool.proofs.ValidImages.{IsCompilable, valid_set}
+use Rattle.tcel_code.proofs.ValidImages.{whole_images_valid}
 
 -- ---- expressions are low, and ports are there
 
@@ -120,4 +120,4 @@ plain_image_valid tree costs plain =
       period = let range = plain.period in (range.0, omega arith);
       names = own_once tree plain;
     } in
-    valid_set (set_of tree) costs refl (task, tt)
+    whole_images_valid (set_of tree) costs refl (task, tt)

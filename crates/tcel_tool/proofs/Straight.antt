@@ -17,9 +17,9 @@ use Rattle.tcel_image.specs.declared.image.ImageTask.{ImageTask}
 use Rattle.tcel_image.specs.declared.image.Instr.TheVariants.{Mark, End}
 use Rattle.tcel_core.specs.Cells.{all_words}
 use Rattle.tcel_tool.specs.declared.plain_tree.PlainTree.{PlainTree}
-use Rattle.tcel_tool.specs.Code.{at, act_code, block_code, whole_code}
+use Rattle.tcel_code.specs.Code.{at, act_code, block_code, whole_code}
 use Rattle.tcel_core.specs.Contents.{act_loops, loops}
-use Rattle.tcel_tool.specs.Layout.{image_of, image_task, state_of, states_of}
+use Rattle.tcel_code.specs.Layout.{image_of, image_task, state_of, states_of}
 use Rattle.tcel_tool.specs.PlainTree.{act_of, block_from, names_of, set_of, task_of, vars_of, var_of}
 
 -- the code of one statement, wherever it stands

@@ -5,7 +5,7 @@ use Rattle.tcel_num.specs.declared.op.Op.{Op}
 use Rattle.tcel_num.specs.declared.op.Op.TheVariants as ops
 use Rattle.tcel_target.specs.declared.costs.Costs.{Costs}
 use Rattle.std.specs.List.{AllByRecursion}
-use Rattle.tcel_image.specs.Instructions.{operator_cycles}
+use Rattle.tcel_target.specs.Costs.{cost_of}
 use Rattle.tcel_tool.specs.declared.plain_tree.PlainDecl.{PlainDecl}
 use Rattle.tcel_tool.specs.declared.plain_tree.PlainTree.{PlainTree}
 use Rattle.tcel_tool.specs.declared.plain_tree.PlainStmt.{PlainStmt}
@@ -14,31 +14,31 @@ use Rattle.tcel_tool.specs.declared.plain_tree.PlainExpr.{PlainExpr}
 use Rattle.tcel_tool.specs.declared.plain_tree.PlainExpr.TheVariants as exprs
 use Rattle.tcel_tool.specs.declared.plain_tree.Operand.{Operand}
 use Rattle.tcel_tool.specs.declared.plain_tree.Operand.TheVariants as operands
-use Rattle.tcel_tool.specs.Costs.{expr_cycles}
+use Rattle.tcel_cost.specs.Expressions.{expr_cycles, operator_key}
 use Rattle.tcel_tool.specs.PlainTree.{IsPlain, ExprIsPlain, StmtIsPlain, act_of, block_from, expr_of, operand_of, task_of, vars_of}
 use Rattle.tcel_tool.specs.StraightPlan.{operand_cycles, straight_cycles, stmt_cycles, body_cycles, plan_of}
-use Rattle.tcel_tool.specs.Walks.{Then, Walks, ActWalks, EndsAt, IsTotal}
-use Rattle.tcel_tool.specs.WholePlan.{ArePoints, IsWholePlan}
+use Rattle.tcel_cost.specs.Walks.{Then, Walks, ActWalks, EndsAt, IsTotal}
+use Rattle.tcel_cost.specs.WholePlan.{ArePoints, IsWholePlan}
 
 module _ (costs : Costs) where
   -- a sum or a difference
-  plain_operator : (op : Op) → (op ≡ ops.Add) ⊎ (op ≡ ops.Sub) → operator_cycles costs op ≡ costs.arith
-  plain_operator op (inl is) = ap (operator_cycles costs) is
-  plain_operator op (inr is) = ap (operator_cycles costs) is
+  plain_operator : (op : Op) → (op ≡ ops.Add) ⊎ (op ≡ ops.Sub) → cost_of costs (operator_key op) ≡ costs.arith
+  plain_operator op (inl is) = ap (λ (o : Op). cost_of costs (operator_key o)) is
+  plain_operator op (inr is) = ap (λ (o : Op). cost_of costs (operator_key o)) is
 
-  one_operand : (decls : List PlainDecl) (a : Operand) → expr_cycles costs (vars_of decls) (operand_of decls a) ≡ operand_cycles costs a
+  one_operand : (decls : List PlainDecl) (a : Operand) → expr_cycles costs (operand_of decls a) ≡ operand_cycles costs a
   one_operand decls (operands.Number n) = omega arith
   one_operand decls (operands.Var name) = omega arith
 
   two_operands : (decls : List PlainDecl) (op : Op) (a b : Operand) → (op ≡ ops.Add) ⊎ (op ≡ ops.Sub) →
-      expr_cycles costs (vars_of decls) (expr_of decls (exprs.Two op a b)) ≡ operand_cycles costs a + operand_cycles costs b + costs.arith
+      expr_cycles costs (expr_of decls (exprs.Two op a b)) ≡ operand_cycles costs a + operand_cycles costs b + costs.arith
   two_operands decls op (operands.Number n) (operands.Number m) plain = omega (arith, plain_operator op plain)
   two_operands decls op (operands.Number n) (operands.Var m) plain = omega (arith, plain_operator op plain)
   two_operands decls op (operands.Var n) (operands.Number m) plain = omega (arith, plain_operator op plain)
   two_operands decls op (operands.Var n) (operands.Var m) plain = omega (arith, plain_operator op plain)
 
   -- the cycles of an expression
-  pub expr_is : (decls : List PlainDecl) (e : PlainExpr) → ExprIsPlain decls e → expr_cycles costs (vars_of decls) (expr_of decls e) ≡ straight_cycles costs e
+  pub expr_is : (decls : List PlainDecl) (e : PlainExpr) → ExprIsPlain decls e → expr_cycles costs (expr_of decls e) ≡ straight_cycles costs e
   expr_is decls (exprs.One a) plain = one_operand decls a
   expr_is decls (exprs.Two op a b) plain = two_operands decls op a b plain.0
 

@@ -13,8 +13,9 @@ use Rattle.tcel_script.specs.Lines.{Line, script_lines}
 use Rattle.tcel_script.specs.Script.{script_of, stream_in, streams_of, unless_fault}
 use Rattle.tcel_script.specs.declared.fail.ScriptFail.{ScriptFail}
 use Rattle.tcel_verify.specs.Ports.{port_row, port_rows}
-use Rattle.tcel_tool.specs.Headline.{HasStreams, KeepsItsPromise}
-use Rattle.tcel_tool.specs.Layout.{image_of, image_task, written}
+use Rattle.tcel_tool.specs.Headline.{KeepsItsPromise}
+use Rattle.tcel_code.specs.Theorem.{HasStreams}
+use Rattle.tcel_code.specs.Layout.{image_of, image_task, written}
 use Rattle.tcel_tool.specs.RunAnswer.{Spells}
 use Rattle.tcel_tool.specs.WrittenImages.{RunsOfWrittenImagesMeet, WrittenImagesAreTaken}
 

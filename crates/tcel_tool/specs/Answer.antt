@@ -15,10 +15,10 @@ use Rattle.tcel_tool.specs.declared.status.Status.TheVariants as statuses
 use Rattle.tcel_tool.specs.declared.status.LimitFault.TheVariants as limits
 use Rattle.tcel_tool.specs.CanonicalText.{text_of}
 use Rattle.tcel_num.specs.Hyperperiod.{IsHyperperiod, demand}
-use Rattle.tcel_tool.specs.Layout.{written}
+use Rattle.tcel_code.specs.Layout.{written}
 use Rattle.tcel_tool.specs.PlainTree.{IsPlain, IsWritable, set_of}
 use Rattle.tcel_tool.specs.StraightPlan.{frame_ticks}
-use Rattle.tcel_tool.specs.WholePlan.{AreWholePlans}
+use Rattle.tcel_cost.specs.WholePlan.{AreWholePlans}
 
 -- ---- the words
 

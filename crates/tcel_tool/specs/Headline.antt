@@ -1,30 +1,16 @@
 -- The promise of the compiler: every run of a written image does what the source says.
-use Rattle.std.specs.Prelude.{◌≡◌, ℕ, ◌≤◌, ℤ, List, [], ◌∷◌, length, All}
-use Rattle.std.specs.List.{AllZip}
-use Rattle.tcel_num.specs.Hyperperiod.{IsHyperperiod, demand}
-use Rattle.tcel_num.specs.Lateness.{IsNeverLate}
+use Rattle.std.specs.Prelude.{◌≤◌, List, [], ◌∷◌}
 use Rattle.tcel_num.specs.Plan.{Plan}
 use Rattle.tcel_core.specs.Language.{Task}
-use Rattle.tcel_core.specs.Meets.{Meets}
-use Rattle.tcel_core.specs.Scope.{TaskFits}
 use Rattle.tcel_target.specs.declared.costs.Costs.{Costs}
 use Rattle.tcel_target.specs.Costs.{CostsInRange}
-use Rattle.tcel_image.specs.Machine.{Streams, trace}
 use Rattle.tcel_image.specs.Spelling.{InRange}
 use Rattle.tcel_image.specs.Validity.{IsValid}
-use Rattle.tcel_tool.specs.Layout.{image_of}
+use Rattle.tcel_code.specs.Layout.{image_of}
+use Rattle.tcel_code.specs.Theorem.{RunsMeet}
 use Rattle.tcel_tool.specs.PlainTree.{IsPlain, task_of, set_of}
-use Rattle.tcel_tool.specs.WholePlan.{IsWholePlan, AreWholePlans}
+use Rattle.tcel_cost.specs.WholePlan.{IsWholePlan, AreWholePlans}
 use Rattle.tcel_tool.specs.declared.plain_tree.PlainTree.{PlainTree}
-
--- a stream for each input of a task
-abbrev pub HasStreams : Task → List (List ℤ) → Type 0
-HasStreams task streams = length streams ≡ length task.inputs
-
--- over any streams of its inputs and for any number of ticks, the trace of a set's image meets the set, by these plans
-abbrev pub RunsMeet : List Task → Costs → List Plan → Type 0
-RunsMeet set costs plans =
-    (streams : Streams) (ticks : ℕ) → AllZip HasStreams set streams → Meets set plans streams ticks (trace (image_of set costs) streams ticks)
 
 -- a set's image keeps its promise: it has a spelling and is valid, and by the whole plans of the set's tasks, every run meets the set
 pub record KeepsItsPromise (set : List Task) (costs : Costs) : Type 0 where
@@ -39,9 +25,3 @@ abbrev pub CompiledProgramsMeetTheirSource : Type 0
 CompiledProgramsMeetTheirSource =
     (tree : PlainTree) (costs : Costs) (plan : Plan) → IsPlain tree → CostsInRange costs → IsWholePlan (task_of tree) costs plan →
     plan.total ≤ plan.period → RunsMeet (set_of tree) costs (plan ∷ [])
-
--- so do those of every set of which no task is sliced, where its demand fits and no point of its whole plans is ever late
-abbrev pub WholeSetsMeetTheirSource : Type 0
-WholeSetsMeetTheirSource =
-    (set : List Task) (costs : Costs) (plans : List Plan) (hyper : ℕ) → All TaskFits set → CostsInRange costs → AreWholePlans set costs plans →
-    IsHyperperiod plans hyper → demand plans hyper ≤ hyper → IsNeverLate plans → RunsMeet set costs plans

@@ -8,7 +8,7 @@ use Rattle.tcel_image.specs.Machine.{Streams, trace}
 use Rattle.tcel_image.specs.Reading.{reading}
 use Rattle.tcel_image.specs.Validity.{IsValid}
 use Rattle.tcel_tool.specs.Headline.{KeepsItsPromise}
-use Rattle.tcel_tool.specs.Layout.{image_of, written}
+use Rattle.tcel_code.specs.Layout.{image_of, written}
 use Rattle.tcel_tool.specs.RunAnswer.{Runs}
 
 -- `run` reads written bytes as the image that was written, and finds no flaw in it

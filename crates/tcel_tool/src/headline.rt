@@ -1,5 +1,5 @@
 ghost use Rattle.tcel_tool.specs.CanonicalText.{TextsTellPrograms};
-ghost use Rattle.tcel_tool.specs.Headline.{CompiledProgramsMeetTheirSource, WholeSetsMeetTheirSource};
+ghost use Rattle.tcel_tool.specs.Headline.{CompiledProgramsMeetTheirSource};
 ghost use Rattle.tcel_tool.specs.WrittenImages.{RunsOfWrittenImagesMeet, WrittenImagesAreTaken};
 
 /// Every run of a plain program's image does what its source says, in order and in time (docs/architecture.md, "How the proof goes").
@@ -11,11 +11,6 @@ pub fn compiled_programs_meet_their_source()
 pub fn written_images_run_as_their_source()
     ensures headline { RunsOfWrittenImagesMeet }
     ensures taken { WrittenImagesAreTaken }
-{}
-
-/// Every run of the image of a set does what the set's source says, in order and in time, where no task is sliced, the demand fits and no point is ever late.
-pub fn whole_sets_meet_their_source()
-    ensures headline { WholeSetsMeetTheirSource }
 {}
 
 /// A plain program is told by its canonical text.

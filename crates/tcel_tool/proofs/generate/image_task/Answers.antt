@@ -1,8 +1,8 @@
 use Rattle.std.proofs.Common.{◌∙◌, ap}
 use Rattle.tcel_core.specs.Cells.{all_words}
 use Rattle.tcel_tool.specs.declared.plain_tree.PlainKind.TheVariants as kinds
-use Rattle.tcel_tool.specs.Code.{whole_code}
-use Rattle.tcel_tool.specs.Layout.{states_of}
+use Rattle.tcel_code.specs.Code.{whole_code}
+use Rattle.tcel_code.specs.Layout.{states_of}
 use Rattle.tcel_tool.specs.PlainTree.{block_from, names_of, vars_of}
 use Rattle.tcel_tool.proofs.Straight.{task_is}
 use Rattle.tcel_tool.proofs.generate.image_task.Goals as goal

@@ -1,6 +1,6 @@
 use Rattle.std.proofs.Common.{◌≡◌, ℕ, List, take, map}
 use Rattle.tcel_core.specs.declared.var.Keep.{Keep}
-use Rattle.tcel_tool.specs.Layout.{state_of}
+use Rattle.tcel_code.specs.Layout.{state_of}
 use Rattle.tcel_tool.specs.PlainTree.{var_of}
 use Rattle.tcel_tool.proofs.generate.int_states.Given as goal
 

@@ -1,0 +1,5 @@
+pub mod Code
+pub mod CodeCycles
+pub mod Compilable
+pub mod Layout
+pub mod Theorem

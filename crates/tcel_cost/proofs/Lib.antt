@@ -1,0 +1,6 @@
+pub mod SteadyWalks
+pub mod RunWalks
+pub mod BoundEvents
+pub mod BranchingExample
+pub mod LoopExamples
+pub mod WindowedPlan

@@ -1,0 +1,6 @@
+pub mod Examples
+pub mod Expressions
+pub mod Hold
+pub mod Steady
+pub mod Walks
+pub mod WholePlan

@@ -1,0 +1,22 @@
+ghost use Rattle.std.specs.Prelude.{[], ◌∷◌, None, Some};
+ghost use Rattle.tcel_core.specs.Examples.{for_body, while_body, loop_vars};
+ghost use Rattle.tcel_target.specs.Costs.{unit_costs};
+ghost use Rattle.tcel_cost.specs.Examples.{branching_body, branching_vars, many_costs, windowed_plan, windowed_task};
+ghost use Rattle.tcel_cost.specs.Walks.{IsFirstCount, IsQuietCount, IsTotal, Walks};
+ghost use Rattle.tcel_cost.specs.WholePlan.{AreWholePlans};
+
+/// What bodies cost (docs/analysis.md).
+pub fn cost_examples()
+    ensures branching { IsTotal (Walks branching_body branching_vars unit_costs) 0 15 }
+
+    // Loops behind 15 ticks of a frame's start, on a processor where each cost is another: no walk has an event.
+    ensures for_total { IsTotal (Walks for_body loop_vars many_costs) 15 118 }
+    ensures for_quiet { IsQuietCount (Walks for_body loop_vars many_costs) 15 (Some 118) }
+    ensures for_first { IsFirstCount (Walks for_body loop_vars many_costs) 15 None }
+    ensures while_total { IsTotal (Walks (while_body 5) loop_vars many_costs) 15 224 }
+{}
+
+/// The plan of a task with a `do` block (docs/analysis.md).
+pub fn plan_example()
+    ensures plan { AreWholePlans (windowed_task ∷ []) unit_costs (windowed_plan ∷ []) }
+{}

@@ -1,5 +1,0 @@
-use Rattle.tcel_tool.proofs.NeverLateSets.{whole_sets_meet}
-use Rattle.tcel_tool.proofs.headline.whole_sets_meet_their_source.Goals as goal
-
-pub returns : goal.returns
-returns c = record { headline = whole_sets_meet }
