@@ -80,7 +80,7 @@ told_again words word limit old new bytes loads = ap (λ (s : SeenShelf). s.told
 
 pub never_words : (command : Command) (end : Ended) (stages : List Stage) (call : Call) (shelf : SeenShelf) → Goes command end stages call shelf → end.status ≡ statuses.Words → ⊥
 never_words command end [] call shelf (inl stop) e = let c = stop.cause in cc
-never_words command end [] call shelf (inr writes) e = elim writes.put [ | inl p ↦ let o = p.0 in cc | inr p ↦ let o = p.0 in cc ]
+never_words command end [] call shelf (inr writes) e = elim writes.put [ inl p ↦ let o = p.0 in cc | inr p ↦ let o = p.0 in cc ]
 never_words command end (load word limit ∷ stages) call shelf (inl (inl s, same)) e = let o = s.0 in cc
 never_words command end (load word limit ∷ stages) call shelf (inl (inr (inl s), same)) e = let o = s.0 in cc
 never_words command end (load word limit ∷ stages) call shelf (inl (inr (inr s), same)) e = let o = s.0 in cc
@@ -89,7 +89,7 @@ never_words command end (load word limit ∷ stages) call shelf (inr (bytes, nex
 never_words command end (bound kind word most ∷ stages) call shelf (inl stop) e = let o = stop.cause.0 in cc
 never_words command end (bound kind word most ∷ stages) call shelf (inr (few, rest)) e = never_words command end stages call shelf rest e
 never_words command end (test what ∷ stages) call shelf (inl stop) e =
-    elim stop.cause [ | inl o ↦ cc | inr r ↦ no_refusal what call end.status statuses.Words r e refl ]
+    elim stop.cause [ inl o ↦ cc | inr r ↦ no_refusal what call end.status statuses.Words r e refl ]
 never_words command end (test what ∷ stages) call shelf (inr (passes, rest)) e = never_words command end stages call shelf rest e
 
 -- ---- where nothing stops it, a call ends well, unless memory, a read or a write fails
@@ -108,7 +108,7 @@ ends status given e h = subst IsUnrefused (sym e) h
 pub unrefused : (command : Command) (end : Ended) (told : List ℕ → Option (List ℕ)) (stages : List Stage) (call : Call) (shelf : SeenShelf) → shelf.told ≡ told
     → Goes command end stages call shelf → NothingStops told stages call → IsUnrefused end.status
 unrefused command end told [] call shelf same (inl stop) none = ends end.status _ stop.cause tt
-unrefused command end told [] call shelf same (inr writes) none = elim writes.put [ | inl p ↦ ends end.status _ p.0 tt | inr p ↦ ends end.status _ p.0 tt ]
+unrefused command end told [] call shelf same (inr writes) none = elim writes.put [ inl p ↦ ends end.status _ p.0 tt | inr p ↦ ends end.status _ p.0 tt ]
 unrefused command end told (load word limit ∷ stages) call shelf same (inl (inl s, kept)) none = ends end.status _ s.0 tt
 unrefused command end told (load word limit ∷ stages) call shelf same (inl (inr (inl s), kept)) none = ends end.status _ s.0 tt
 unrefused command end told (load word limit ∷ stages) call shelf same (inl (inr (inr s), kept)) none =
@@ -123,7 +123,7 @@ unrefused command end told (load word limit ∷ stages) call shelf same (inr (by
 unrefused command end told (bound kind word most ∷ stages) call shelf same (inl stop) none = absurd (omega (arith, stop.cause.1, none.0))
 unrefused command end told (bound kind word most ∷ stages) call shelf same (inr (few, rest)) none = unrefused command end told stages call shelf same rest none.1
 unrefused command end told (test what ∷ stages) call shelf same (inl stop) none =
-    elim stop.cause [ | inl o ↦ ends end.status _ o tt | inr r ↦ absurd (none.0 end.status r) ]
+    elim stop.cause [ inl o ↦ ends end.status _ o tt | inr r ↦ absurd (none.0 end.status r) ]
 unrefused command end told (test what ∷ stages) call shelf same (inr (passes, rest)) none = unrefused command end told stages call shelf same rest none.1
 
 -- ---- a call that ended well went through all stages
@@ -169,7 +169,7 @@ finished command end told (bound kind word most ∷ stages) call shelf same (inr
     let f = finished command end told stages call shelf same rest e in
     record { last = f.last; reads = f.reads; pieces = f.pieces; text = f.text; taken = f.taken }
 finished command end told (test what ∷ stages) call shelf same (inl stop) e =
-    elim stop.cause [ | inl o ↦ absurd cc | inr r ↦ absurd (no_refusal what call end.status statuses.Ok r e refl) ]
+    elim stop.cause [ inl o ↦ absurd cc | inr r ↦ absurd (no_refusal what call end.status statuses.Ok r e refl) ]
 finished command end told (test what ∷ stages) call shelf same (inr (passes, rest)) e =
     let f = finished command end told stages call shelf same rest e in
     record { last = f.last; reads = f.reads; pieces = f.pieces; text = f.text; taken = f.taken }

@@ -15,7 +15,8 @@ use Rattle.tcel_tool.specs.Answer.{Does, Ended, begun}
 use Rattle.tcel_tool.specs.CommandLine.{word_at}
 use Rattle.tcel_tool.specs.Commands.{stages_of}
 use Rattle.tcel_tool.specs.CompileCommand.{Compiles, Demands, GivesCosts, IsCompiled, IsTextOf, Overloads, image_bytes}
-use Rattle.tcel_tool.specs.PlainTree.{IsPlain}
+use Rattle.tcel_code.specs.Layout.{image_of}
+use Rattle.tcel_tool.specs.PlainTree.{IsPlain, set_of}
 use Rattle.tcel_tool.specs.Stage.{Call}
 use Rattle.tcel_tool.specs.StraightPlan.{frame_ticks, plan_of}
 use Rattle.tcel_tool.specs.declared.command.Command.{Command}
@@ -24,6 +25,7 @@ use Rattle.tcel_tool.specs.declared.plain_tree.PlainTree.{PlainTree}
 use Rattle.tcel_tool.specs.declared.status.Status.{Status}
 use Rattle.tcel_tool.specs.declared.status.Status.TheVariants.{Ok}
 use Rattle.tcel_tool.proofs.CallLaws.{Finished, finished}
+use Rattle.tcel_tool.proofs.ImageLengths.{image_most}
 use Rattle.tcel_tool.proofs.OneTask.{promise}
 use Rattle.tcel_tool.proofs.StraightPlans.{plan_is}
 
@@ -87,6 +89,7 @@ compiled words shelf shelf' before after status does e =
     let first_is : f.last.read 1 ≡ first = ap (λ (call : Call). call.read 1) f.reads.2.2 in
     let second_is : f.last.read 2 ≡ second = ap (λ (call : Call). call.read 2) f.reads.2.2 in
     let fits : demand c.demands.plans c.hyper ≤ c.hyper = omega (arith, c.demands.cycles_of, c.fits) in
+    let keeps = promise text.tree text.costs c.demands.plans c.hyper c.accepts.plain c.accepts.writable c.gives.ranges c.demands.whole c.demands.period fits in
     record {
       tree = text.tree;
       costs = text.costs;
@@ -96,5 +99,6 @@ compiled words shelf shelf' before after status does e =
       ranges = c.gives.ranges;
       given = as_told (shelf.told (word_at words 2)) (λ bytes. IsTarget bytes text.costs) second (f.last.read 2) f.reads.2.1 second_is c.gives.text;
       taken = one_taken (image_bytes text.tree text.costs) f.pieces before after text.is f.taken;
-      promise = promise text.tree text.costs c.demands.plans c.hyper c.accepts.plain c.accepts.writable c.gives.ranges c.demands.whole c.demands.period fits;
+      loadable = image_most (image_of (set_of text.tree) text.costs) keeps.spelled (omega arith);
+      promise = keeps;
     }

@@ -4,6 +4,7 @@ pub mod Options
 pub mod Places
 pub mod Straight
 pub mod ImagesInRange
+pub mod ImageLengths
 pub mod PlainValid
 pub mod StraightPlans
 pub mod OneTask

@@ -1,5 +1,5 @@
 -- The command `compile`: what it refuses, and what it writes.
-use Rattle.std.specs.Prelude.{◌≡◌, ◌≢◌, ℕ, ◌<◌, ◌≤◌, List, [], ◌∷◌, Option, IfSome, Err, codes}
+use Rattle.std.specs.Prelude.{◌≡◌, ◌≢◌, ℕ, ◌<◌, ◌≤◌, List, [], ◌∷◌, Option, IfSome, Err, codes, length}
 use Rattle.tcel_num.specs.Hyperperiod.{IsHyperperiod, demand}
 use Rattle.tcel_num.specs.Plan.{Plan}
 use Rattle.tcel_io.specs.Taken.{Takes}
@@ -12,6 +12,7 @@ use Rattle.tcel_tool.specs.CanonicalText.{text_of}
 use Rattle.tcel_tool.specs.Headline.{KeepsItsPromise}
 use Rattle.tcel_code.specs.Layout.{written}
 use Rattle.tcel_tool.specs.PlainTree.{IsPlain, IsWritable, set_of}
+use Rattle.tcel_tool.specs.RunCommand.{run_limit}
 use Rattle.tcel_tool.specs.Stage.{Call, Stage, load, test}
 use Rattle.tcel_tool.specs.Test as tests
 use Rattle.tcel_cost.specs.WholePlan.{AreWholePlans}
@@ -107,7 +108,7 @@ pub record IsText (call : Call) (pieces : List (List ℕ)) : Type 0 where
 -- ---- what Ok promises
 
 -- the program is a plain one, and the target has its costs, where their bytes are told; out took the image of the program's set,
--- which has a spelling and is valid, and every run of it meets the set
+-- which has a spelling, is valid and no longer than `run` loads, and every run of it meets the set
 pub record IsCompiled (program target old new : Option (List ℕ)) : Type 0 where
   pub tree : PlainTree
   pub costs : Costs
@@ -117,4 +118,5 @@ pub record IsCompiled (program target old new : Option (List ℕ)) : Type 0 wher
   pub ranges : CostsInRange costs
   pub given : IfSome target (λ bytes. IsTarget bytes costs)
   pub taken : Takes (image_bytes tree costs) old new
+  pub loadable : length (image_bytes tree costs) ≤ run_limit
   pub promise : KeepsItsPromise (set_of tree) costs

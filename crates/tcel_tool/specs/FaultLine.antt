@@ -1,6 +1,5 @@
 -- The line that tells a refusal, in the pieces in which it is put: the texts, and the words and numbers between them.
 use Rattle.std.specs.Prelude.{ℕ, List, [], ◌∷◌, codes}
-use Rattle.std.specs.List.{concat}
 use Rattle.std.specs.Fmt.{decimal}
 use Rattle.tcel_num.specs.declared.at.At.{At}
 use Rattle.tcel_image.specs.declared.fault.ImageFail.{ImageFail}
@@ -91,7 +90,3 @@ fault_pieces words (statuses.Image fail) = image_pieces fail
 fault_pieces words (statuses.Flaw flaw) = flaw_pieces flaw
 fault_pieces words (statuses.Script fail) = script_pieces fail
 fault_pieces words (statuses.Beyond word) = codes "beyond: " ∷ word_at words word ∷ codes "\n" ∷ []
-
--- the whole line, and nothing after Ok
-abbrev pub fault_line : List (List ℕ) → Status → List ℕ
-fault_line words status = concat (fault_pieces words status)

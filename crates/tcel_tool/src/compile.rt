@@ -33,7 +33,8 @@ pub(crate) fn compile<H: Shelf, K: Sink>(
     shelf: &mut H,
     out: &mut K,
 ) -> Result<(), Status>
-    ensures goes { Does Command.Compile (map string_bytes words.now) (H.seen shelf.old) (H.seen shelf.new) (K.seen out.old) (K.seen out.new) (status_of result) }
+    ensures goes { Does Command.Compile (map string_bytes words.now) (H.seen shelf.old) (H.seen shelf.new)
+        (K.seen out.old) (K.seen out.new) (status_of result) }
     ensures untouched { IsTrue (writes (status_of result)) ⊎ (out.new ≡ out.old) }
 {
     let text = load(alloc, words, 1, PROGRAM_LIMIT, shelf)?;

@@ -5,7 +5,7 @@ ghost use Rattle.tcel_cost.specs.WholePlan.{AreWholePlans};
 ghost use Rattle.tcel_image.specs.Examples.{echo};
 ghost use Rattle.tcel_code.specs.Layout.{image_of};
 ghost use Rattle.tcel_tool.specs.CanonicalText.{text_of};
-ghost use Rattle.tcel_tool.specs.Examples.{dispatched_plan, echo_tree};
+ghost use Rattle.tcel_tool.specs.Examples.{dispatched_plan, echo_text, echo_tree};
 ghost use Rattle.tcel_tool.specs.PlainTree.{IsPlain, IsWritable, set_of};
 
 /// The image of a program (docs/machine.md).
@@ -21,7 +21,7 @@ pub fn plain_examples()
 
 /// The canonical text of a program (docs/language.md).
 pub fn text_examples()
-    ensures echo { text_of echo_tree ≡ codes "task t priority 1 {\n  input s;\n  output o;\n  state int n;\n  local int x;\n  every 10 {\n    receive x from s;\n    send x to o;\n    n := n + 1;\n  }\n}\n" }
+    ensures echo { text_of echo_tree ≡ echo_text }
 {}
 
 /// The plan of a plain program, on a processor where each cost is another (docs/commands.md, "Plain programs").

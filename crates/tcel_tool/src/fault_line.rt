@@ -1,7 +1,8 @@
 ghost use Rattle.std.specs.Prelude.{◌≡◌, [], ◌∷◌, codes, map, string_bytes};
 ghost use Rattle.std.specs.Fmt.{decimal};
 ghost use Rattle.tcel_io.specs.InTurn.{ArePut};
-ghost use Rattle.tcel_tool.specs.FaultLine.{fault_pieces, flaw_pieces, flaw_text, image_pieces, limit_pieces, program_pieces, program_text, script_pieces, target_pieces};
+ghost use Rattle.tcel_tool.specs.FaultLine.{fault_pieces, flaw_pieces, flaw_text, image_pieces, limit_pieces};
+ghost use Rattle.tcel_tool.specs.FaultLine.{program_pieces, program_text, script_pieces, target_pieces};
 
 use crate::stages::word_at;
 use crate::status::{CountKind, LimitFault, ProgramKind, Status};
@@ -41,7 +42,10 @@ pub(crate) fn put_fault_line<K: Sink>(words: &[String], status: &Status, err: &m
         Status::Image(fail) => put_image_fail(*fail, err),
         Status::Flaw(flaw) => put_flaw(*flaw, err),
         Status::Script(fail) => put_script_fail(*fail, err),
-        Status::Beyond { word } => put_all(&[b"beyond: ", word_at(words, *word).as_bytes(), b"\n"], err),
+        Status::Beyond { word } => put_all(
+            &[b"beyond: ", word_at(words, *word).as_bytes(), b"\n"],
+            err,
+        ),
     }
 }
 

@@ -25,7 +25,8 @@ pub(crate) fn format<H: Shelf, K: Sink>(
     shelf: &mut H,
     out: &mut K,
 ) -> Result<(), Status>
-    ensures goes { Does Command.Format (map string_bytes words.now) (H.seen shelf.old) (H.seen shelf.new) (K.seen out.old) (K.seen out.new) (status_of result) }
+    ensures goes { Does Command.Format (map string_bytes words.now) (H.seen shelf.old) (H.seen shelf.new)
+        (K.seen out.old) (K.seen out.new) (status_of result) }
     ensures untouched { IsTrue (writes (status_of result)) ⊎ (out.new ≡ out.old) }
 {
     let text = load(alloc, words, 1, PROGRAM_LIMIT, shelf)?;
@@ -43,9 +44,18 @@ fn program_of(alloc: Global, text: &[u8]) -> Result<Program, Status>
 {
     match tokens(alloc, text) {
         Ok(tokens) => parsed(alloc, &tokens),
-        Err(LexFail::BadByte { at }) => Err(Status::Program { kind: ProgramKind::BadByte, at }),
-        Err(LexFail::BadNumber { at }) => Err(Status::Program { kind: ProgramKind::BadNumber, at }),
-        Err(LexFail::NameTooLong { at }) => Err(Status::Program { kind: ProgramKind::NameTooLong, at }),
+        Err(LexFail::BadByte { at }) => Err(Status::Program {
+            kind: ProgramKind::BadByte,
+            at,
+        }),
+        Err(LexFail::BadNumber { at }) => Err(Status::Program {
+            kind: ProgramKind::BadNumber,
+            at,
+        }),
+        Err(LexFail::NameTooLong { at }) => Err(Status::Program {
+            kind: ProgramKind::NameTooLong,
+            at,
+        }),
         Err(LexFail::NoMemory) => Err(Status::NoMemory),
     }
 }
@@ -57,9 +67,22 @@ fn parsed(alloc: Global, tokens: &Tokens) -> Result<Program, Status>
 {
     match parse(alloc, tokens) {
         Ok(program) => Ok(program),
-        Err(ParseFail::Syntax { at }) => Err(Status::Program { kind: ProgramKind::Unexpected, at }),
-        Err(ParseFail::TooDeep { at, what: Deep::Nesting }) => Err(Status::Limit(LimitFault::Nesting { at })),
-        Err(ParseFail::TooDeep { at, what: Deep::Operators }) => Err(Status::Limit(LimitFault::Operators { at })),
+        Err(ParseFail::Syntax { at }) => Err(Status::Program {
+            kind: ProgramKind::Unexpected,
+            at,
+        }),
+        Err(
+            ParseFail::TooDeep {
+                at,
+                what: Deep::Nesting,
+            },
+        ) => Err(Status::Limit(LimitFault::Nesting { at })),
+        Err(
+            ParseFail::TooDeep {
+                at,
+                what: Deep::Operators,
+            },
+        ) => Err(Status::Limit(LimitFault::Operators { at })),
         Err(ParseFail::NoMemory) => Err(Status::NoMemory),
     }
 }

@@ -17,6 +17,8 @@ mod cursor;
 mod examples;
 mod fault_line;
 mod format;
+#[cfg(test)]
+mod format_tests;
 mod generate;
 mod headline;
 mod names;

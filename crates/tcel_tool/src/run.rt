@@ -33,7 +33,8 @@ pub(crate) fn run<H: Shelf, K: Sink>(
     out: &mut K,
 ) -> Result<(), Status>
     requires { HasForm Command.Run (map string_bytes words.now) }
-    ensures goes { Does Command.Run (map string_bytes words.now) (H.seen shelf.old) (H.seen shelf.new) (K.seen out.old) (K.seen out.new) (status_of result) }
+    ensures goes { Does Command.Run (map string_bytes words.now) (H.seen shelf.old) (H.seen shelf.new)
+        (K.seen out.old) (K.seen out.new) (status_of result) }
     ensures untouched { IsTrue (writes (status_of result)) ⊎ (out.new ≡ out.old) }
 {
     let ticks = number_up_to(words, 3, CountKind::Ticks, MOST_TICKS)?;

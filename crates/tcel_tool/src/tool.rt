@@ -75,7 +75,8 @@ fn body<H: Shelf, K: Sink>(
     out: &mut K,
 ) -> Result<(), Status>
     requires { HasForm command (map string_bytes words.now) }
-    ensures goes { Does command (map string_bytes words.now) (H.seen shelf.old) (H.seen shelf.new) (K.seen out.old) (K.seen out.new) (status_of result) }
+    ensures goes { Does command (map string_bytes words.now) (H.seen shelf.old) (H.seen shelf.new)
+        (K.seen out.old) (K.seen out.new) (status_of result) }
     ensures untouched { IsTrue (writes (status_of result)) ⊎ (out.new ≡ out.old) }
 {
     match command {

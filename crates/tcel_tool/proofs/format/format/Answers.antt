@@ -24,8 +24,16 @@ returns-in_err-put-clause-goes g c =
     let call = with_read 1 text (begun (map string_bytes c.args.words.now)) in
     let piece = c.deref-2.result.now in
     let canonical : piece ∷ [] ≡ canonical_text tasks ∷ [] = ap (λ (t : List ℕ). t ∷ []) (c.deref-2.ensures.value ∙ c.in_ok-canonical.ensures) in
-    inr (text, next, c.in_ok-text.ensures.loaded, inr ((tasks, is), inr (cut_off (IsText call) (piece ∷ []) next (g.K.Sink.seen c.args.out.now) (g.K.Sink.seen c.put.new.self) c.from_residual-in_err-put.result
-    (record { tasks = tasks; program = is; is = canonical }) c.from_residual-in_err-put.ensures.1 (inl c.in_err-put.ensures.cut_off))))
+    inr (
+      text,
+      next,
+      c.in_ok-text.ensures.loaded,
+      inr (
+        (tasks, is),
+        inr (cut_off (IsText call) (piece ∷ []) next (g.K.Sink.seen c.args.out.now) (g.K.Sink.seen c.put.new.self) c.from_residual-in_err-put.result
+            (record { tasks = tasks; program = is; is = canonical }) c.from_residual-in_err-put.ensures.1 (inl c.in_err-put.ensures.cut_off)),
+      ),
+    )
 
 pub returns-clause-goes : goal.returns-clause-goes
 returns-clause-goes g c =
@@ -37,8 +45,16 @@ returns-clause-goes g c =
     let piece = c.deref-2.result.now in
     let canonical : piece ∷ [] ≡ canonical_text tasks ∷ [] = ap (λ (t : List ℕ). t ∷ []) (c.deref-2.ensures.value ∙ c.in_ok-canonical.ensures) in
     let after = g.K.Sink.seen c.put.new.self in
-    inr (text, next, c.in_ok-text.ensures.loaded, inr ((tasks, is), inr (taken {T = Unit {0}} (IsText call) (piece ∷ []) next (g.K.Sink.seen c.args.out.now) after tt
-    (record { tasks = tasks; program = is; is = canonical }) (after, c.in_ok-put.ensures.taken, refl))))
+    inr (
+      text,
+      next,
+      c.in_ok-text.ensures.loaded,
+      inr (
+        (tasks, is),
+        inr (taken {T = Unit {0}} (IsText call) (piece ∷ []) next (g.K.Sink.seen c.args.out.now) after tt
+            (record { tasks = tasks; program = is; is = canonical }) (after, c.in_ok-put.ensures.taken, refl)),
+      ),
+    )
 
 pub returns-in_err-put-clause-untouched : goal.returns-in_err-put-clause-untouched
 returns-in_err-put-clause-untouched g c = inl (at_write_fault c.from_residual-in_err-put.result c.from_residual-in_err-put.ensures.1)
