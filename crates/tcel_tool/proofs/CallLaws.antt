@@ -3,8 +3,8 @@ use Rattle.std.proofs.Common.{◌≡◌, ◌⊎◌, ◌<◌, ◌≤◌, ◌∙�
 use Rattle.std.specs.Prelude.{IfSome, IsTrue, MatchOption}
 use Rattle.tcel_io.specs.InTurn.{AreTaken}
 use Rattle.tcel_io.specs.Shelf.{SeenShelf}
-use Rattle.tcel_tool.specs.Answer.{Ended, Goes, IsUnrefused, Loads, NothingStops, Stops, Writes, with_read}
-use Rattle.tcel_tool.specs.CommandLine.{number_at, word_at}
+use Rattle.tcel_tool.specs.Answer.{Agrees, Decides, Ended, Goes, Loads, with_read}
+use Rattle.tcel_tool.specs.CommandLine.{word_at}
 use Rattle.tcel_tool.specs.Commands.{IsText, Refuses}
 use Rattle.tcel_tool.specs.FormatCommand.{IsDeep, IsLexical}
 use Rattle.tcel_tool.specs.RunCommand.{RefusesImage, RefusesLines}
@@ -12,6 +12,7 @@ use Rattle.tcel_tool.specs.Stage.{Call, Stage, load, bound, test}
 use Rattle.tcel_tool.specs.Test.{Test}
 use Rattle.tcel_tool.specs.Test as tests
 use Rattle.tcel_tool.specs.declared.command.Command.{Command}
+use Rattle.tcel_tool.specs.declared.status.LimitFault.TheVariants as limits
 use Rattle.tcel_tool.specs.declared.status.Status.{Status}
 use Rattle.tcel_tool.specs.declared.status.Status.TheVariants as statuses
 use Rattle.tcel_grammar.specs.declared.deep.Deep.{Deep}
@@ -20,6 +21,7 @@ use Rattle.tcel_image.specs.declared.image.Image.{Image}
 use Rattle.tcel_num.specs.declared.at.At.{At}
 use Rattle.tcel_token.specs.declared.fail.LexFail.{LexFail}
 use Rattle.tcel_token.specs.declared.fail.LexFail.TheVariants as lex
+use Rattle.tcel_tool.proofs.TestLaws.{one_refusal, passes_or_refuses}
 
 -- a status that a test gives
 abbrev pub is_refusal : Status → Bool
@@ -92,39 +94,56 @@ never_words command end (test what ∷ stages) call shelf (inl stop) e =
     elim stop.cause [ inl o ↦ cc | inr r ↦ no_refusal what call end.status statuses.Words r e refl ]
 never_words command end (test what ∷ stages) call shelf (inr (passes, rest)) e = never_words command end stages call shelf rest e
 
--- ---- where nothing stops it, a call ends well, unless memory, a read or a write fails
+-- ---- the told bytes decide the status
 
-too_long : (o : Option (List ℕ)) (limit : ℕ) (P : List ℕ → Type 0) → MatchOption o ⊥ (λ bytes. (length bytes ≤ limit) × P bytes) → IfSome o (λ all. limit < length all) → ⊥
-too_long None limit P h long = h
-too_long (Some bytes) limit P h long = omega (arith, h.0, long)
+-- what is decided behind a load of told bytes
+told_bytes : (o : Option (List ℕ)) (P : List ℕ → Type 0) (bytes : List ℕ) → MatchOption o ⊥ P → IfSome o (λ all. bytes ≡ all) → P bytes
+told_bytes None P bytes h is = absurd h
+told_bytes (Some all) P bytes h is = subst P (sym is) h
 
-told_bytes : (o : Option (List ℕ)) (limit : ℕ) (P : List ℕ → Type 0) (bytes : List ℕ) → MatchOption o ⊥ (λ all. (length all ≤ limit) × P all) → IfSome o (λ all. bytes ≡ all) → P bytes
-told_bytes None limit P bytes h is = absurd h
-told_bytes (Some all) limit P bytes h is = subst P (sym is) h.1
+-- where they are longer than the limit
+told_long : (o : Option (List ℕ)) (limit : ℕ) (Long Short : List ℕ → Type 0) (Q : Type 0) → MatchOption o ⊥ (λ bytes. ((limit < length bytes) × Long bytes) ⊎ ((length bytes ≤ limit) × Short bytes))
+    → IfSome o (λ all. limit < length all) → ((bytes : List ℕ) → Long bytes → Q) → Q
+told_long None limit Long Short Q h long f = absurd h
+told_long (Some bytes) limit Long Short Q h long f = elim h [ inl l ↦ f bytes l.1 | inr s ↦ absurd (omega (arith, s.0, long)) ]
 
-ends : (status given : Status) → status ≡ given → IsUnrefused given → IsUnrefused status
-ends status given e h = subst IsUnrefused (sym e) h
+out_of_memory : (decided status : Status) → status ≡ statuses.NoMemory → Agrees decided status
+out_of_memory decided status e = inr (inl e)
 
-pub unrefused : (command : Command) (end : Ended) (told : List ℕ → Option (List ℕ)) (stages : List Stage) (call : Call) (shelf : SeenShelf) → shelf.told ≡ told
-    → Goes command end stages call shelf → NothingStops told stages call → IsUnrefused end.status
-unrefused command end told [] call shelf same (inl stop) none = ends end.status _ stop.cause tt
-unrefused command end told [] call shelf same (inr writes) none = elim writes.put [ inl p ↦ ends end.status _ p.0 tt | inr p ↦ ends end.status _ p.0 tt ]
-unrefused command end told (load word limit ∷ stages) call shelf same (inl (inl s, kept)) none = ends end.status _ s.0 tt
-unrefused command end told (load word limit ∷ stages) call shelf same (inl (inr (inl s), kept)) none = ends end.status _ s.0 tt
-unrefused command end told (load word limit ∷ stages) call shelf same (inl (inr (inr s), kept)) none =
+pub agrees : (command : Command) (end : Ended) (told : List ℕ → Option (List ℕ)) (decided : Status) (stages : List Stage) (call : Call) (shelf : SeenShelf) → shelf.told ≡ told
+    → Goes command end stages call shelf → Decides told stages call decided → Agrees decided end.status
+agrees command end told decided [] call shelf same (inl stop) d = out_of_memory decided end.status stop.cause
+agrees command end told decided [] call shelf same (inr writes) d =
+    elim writes.put [ inl p ↦ inl (p.0 ∙ sym d) | inr p ↦ inr (inr (inr (d, p.0))) ]
+agrees command end told decided (load word limit ∷ stages) call shelf same (inl (inl s, kept)) d = out_of_memory decided end.status s.0
+agrees command end told decided (load word limit ∷ stages) call shelf same (inl (inr (inl s), kept)) d = inr (inr (inl (word, s.0)))
+agrees command end told decided (load word limit ∷ stages) call shelf same (inl (inr (inr s), kept)) d =
     let name = word_at call.words word in
-    absurd (too_long (told name) limit (λ bytes. NothingStops told stages (with_read word bytes call)) none
-    (subst (λ (t : List ℕ → Option (List ℕ)). IfSome (t name) (λ all. limit < length all)) same s.2))
-unrefused command end told (load word limit ∷ stages) call shelf same (inr (bytes, next, loads, rest)) none =
+    let Long = λ (bytes : List ℕ). decided ≡ statuses.Limit (limits.Bytes word limit) in
+    let Short = λ (bytes : List ℕ). Decides told stages (with_read word bytes call) decided in
+    let decides = told_long (told name) limit Long Short (decided ≡ statuses.Limit (limits.Bytes word limit)) d
+    (subst (λ (t : List ℕ → Option (List ℕ)). IfSome (t name) (λ all. limit < length all)) same s.2) (λ bytes e. e) in
+    inl (s.0 ∙ sym decides)
+agrees command end told decided (load word limit ∷ stages) call shelf same (inr (bytes, next, loads, rest)) d =
     let name = word_at call.words word in
-    unrefused command end told stages (with_read word bytes call) next (told_again call.words word limit shelf next bytes loads ∙ same) rest
-    (told_bytes (told name) limit (λ bytes. NothingStops told stages (with_read word bytes call)) bytes none
-    (subst (λ (t : List ℕ → Option (List ℕ)). IfSome (t name) (λ all. bytes ≡ all)) same loads.told))
-unrefused command end told (bound kind word most ∷ stages) call shelf same (inl stop) none = absurd (omega (arith, stop.cause.1, none.0))
-unrefused command end told (bound kind word most ∷ stages) call shelf same (inr (few, rest)) none = unrefused command end told stages call shelf same rest none.1
-unrefused command end told (test what ∷ stages) call shelf same (inl stop) none =
-    elim stop.cause [ inl o ↦ ends end.status _ o tt | inr r ↦ absurd (none.0 end.status r) ]
-unrefused command end told (test what ∷ stages) call shelf same (inr (passes, rest)) none = unrefused command end told stages call shelf same rest none.1
+    let P = λ (bytes : List ℕ). ((limit < length bytes) × (decided ≡ statuses.Limit (limits.Bytes word limit)))
+    ⊎ ((length bytes ≤ limit) × Decides told stages (with_read word bytes call) decided) in
+    let here = told_bytes (told name) P bytes d (subst (λ (t : List ℕ → Option (List ℕ)). IfSome (t name) (λ all. bytes ≡ all)) same loads.told) in
+    elim here [
+      | inl long ↦ absurd (omega (arith, long.0, loads.short))
+      | inr short ↦
+          agrees command end told decided stages (with_read word bytes call) next (told_again call.words word limit shelf next bytes loads ∙ same) rest short.1
+    ]
+agrees command end told decided (bound kind word most ∷ stages) call shelf same (inl stop) (inl d) = inl (stop.cause.0 ∙ sym d.0)
+agrees command end told decided (bound kind word most ∷ stages) call shelf same (inl stop) (inr d) = absurd (omega (arith, stop.cause.1, d.0))
+agrees command end told decided (bound kind word most ∷ stages) call shelf same (inr (few, rest)) (inl d) = absurd (omega (arith, few, d.1))
+agrees command end told decided (bound kind word most ∷ stages) call shelf same (inr (few, rest)) (inr d) = agrees command end told decided stages call shelf same rest d.1
+agrees command end told decided (test what ∷ stages) call shelf same (inl stop) (inl d) =
+    elim stop.cause [ inl o ↦ out_of_memory decided end.status o | inr r ↦ inl (one_refusal what call end.status decided r d) ]
+agrees command end told decided (test what ∷ stages) call shelf same (inl stop) (inr d) =
+    elim stop.cause [ inl o ↦ out_of_memory decided end.status o | inr r ↦ absurd (d.0 end.status r) ]
+agrees command end told decided (test what ∷ stages) call shelf same (inr (passes, rest)) (inl d) = absurd (passes_or_refuses what call decided passes d)
+agrees command end told decided (test what ∷ stages) call shelf same (inr (passes, rest)) (inr d) = agrees command end told decided stages call shelf same rest d.1
 
 -- ---- a call that ended well went through all stages
 

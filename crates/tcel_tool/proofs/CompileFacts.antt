@@ -19,7 +19,6 @@ use Rattle.tcel_code.specs.Layout.{image_of}
 use Rattle.tcel_tool.specs.PlainTree.{IsPlain, set_of}
 use Rattle.tcel_tool.specs.Stage.{Call}
 use Rattle.tcel_tool.specs.StraightPlan.{frame_ticks, plan_of}
-use Rattle.tcel_tool.specs.declared.command.Command.{Command}
 use Rattle.tcel_tool.specs.declared.command.Command.TheVariants.{Compile}
 use Rattle.tcel_tool.specs.declared.plain_tree.PlainTree.{PlainTree}
 use Rattle.tcel_tool.specs.declared.status.Status.{Status}

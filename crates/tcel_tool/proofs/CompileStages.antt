@@ -5,7 +5,7 @@ use Rattle.tcel_target.specs.declared.costs.Costs.{Costs}
 use Rattle.tcel_tool.specs.Answer.{Ended, Goes, Loads, OrMemory, begun, with_read}
 use Rattle.tcel_tool.specs.Commands.{stages_of}
 use Rattle.tcel_tool.specs.CompileCommand.{GivesCosts, IsText, IsTextOf, RefusesDemand, image_bytes}
-use Rattle.tcel_tool.specs.Stage.{Call, Stage, load, test}
+use Rattle.tcel_tool.specs.Stage.{Call, load, test}
 use Rattle.tcel_tool.specs.StraightPlan.{frame_ticks}
 use Rattle.tcel_tool.specs.Test as tests
 use Rattle.tcel_tool.specs.declared.command.Command.TheVariants.{Compile}

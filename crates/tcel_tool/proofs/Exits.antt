@@ -1,8 +1,8 @@
 -- The exits of a command's body.
-use Rattle.std.proofs.Common.{◌≡◌, ◌⊎◌, ℕ, List, [], ◌∷◌, Result, Ok, Err, refl, sym, subst, inl, inr}
+use Rattle.std.proofs.Common.{◌≡◌, ℕ, List, Result, Ok, Err, refl, sym, subst, inl, inr}
 use Rattle.std.specs.Prelude.{IsErrAnd, IsTrue}
 use Rattle.tcel_io.specs.InTurn.{AreCutOff, AreTaken}
-use Rattle.tcel_io.specs.Seen.{IsCutOff, IsTaken, Seen}
+use Rattle.tcel_io.specs.Seen.{Seen}
 use Rattle.tcel_io.specs.Shelf.{SeenShelf}
 use Rattle.tcel_tool.specs.Answer.{Ended, Stops, StopsAtLoad, Writes, status_of, writes}
 use Rattle.tcel_tool.specs.declared.status.Status.{Status}

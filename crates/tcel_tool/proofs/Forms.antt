@@ -1,5 +1,5 @@
 -- Words and the commands whose form they have.
-use Rattle.std.proofs.Common.{◌≡◌, ℕ, ◌<◌, ◌≤◌, Bool, true, false, List, [], ◌∷◌, ◌&&◌, nat_le, nat_lt, ◌-◌, length, get_or, map, take, drop, refl, sym, ap, ◌∙◌, subst, arith}
+use Rattle.std.proofs.Common.{◌≡◌, ℕ, ◌<◌, ◌≤◌, Bool, true, false, List, [], ◌∷◌, ◌&&◌, nat_le, nat_lt, ◌-◌, length, get_or, map, take, drop, refl, sym, ap, ◌∙◌, arith}
 use Rattle.std.proofs.lemmas.Bool.Decides.{nat_tests}
 use Rattle.std.proofs.lemmas.List.{take_rest}
 use Rattle.std.proofs.lemmas.List.Folds.{list_all_at}
@@ -7,7 +7,7 @@ use Rattle.std.specs.Char.{is_ascii_digit}
 use Rattle.std.specs.Prelude.{IsTrue}
 use Rattle.std.specs.List.{AllByRecursion, list_all}
 use Rattle.tcel_tool.specs.CommandLine.{AreWords, fit, is_number, word_at}
-use Rattle.tcel_tool.specs.Commands.{HasForm, HaveNoForm, name_of, slots_of}
+use Rattle.tcel_tool.specs.Commands.{HasForm, HaveNoForm, name_of}
 use Rattle.tcel_tool.specs.declared.command.Slot.{Slot}
 use Rattle.tcel_tool.specs.declared.command.Command.{Command}
 use Rattle.tcel_tool.specs.declared.command.Command.TheVariants.{Compile, Run, Format}

@@ -1,4 +1,5 @@
 pub mod WorkedExamples
+pub mod CommandExamples
 pub mod PlainMeets
 pub mod Options
 pub mod Places
@@ -8,6 +9,8 @@ pub mod ImageLengths
 pub mod PlainValid
 pub mod StraightPlans
 pub mod OneTask
+pub mod FlawOrder
+pub mod TestLaws
 pub mod CallLaws
 pub mod Exits
 pub mod CompileFacts

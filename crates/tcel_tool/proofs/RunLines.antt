@@ -1,14 +1,11 @@
 -- The lines of a run, tick by tick.
-use Rattle.std.proofs.Common.{◌≡◌, ◌⊎◌, inl, inr, Option, ◌<◌, ◌≤◌, ◌-◌, ℕ, zero, suc, List, ◌++◌, sym, ◌∙◌, ap, subst, Result, Ok, Err, arith}
+use Rattle.std.proofs.Common.{◌≡◌, ◌<◌, ◌-◌, ℕ, zero, suc, List, ◌++◌, sym, ◌∙◌, ap, subst, Result, Ok, Err, arith}
 use Rattle.std.specs.Prelude.{OnErr, option_to_list}
-use Rattle.std.specs.List.{concat, flat_map}
-use Rattle.tcel_image.specs.Machine.{Streams, entries}
-use Rattle.tcel_image.specs.declared.image.Image.{Image}
+use Rattle.tcel_image.specs.Machine.{entries}
 use Rattle.tcel_image.specs.TraceText.{line}
-use Rattle.tcel_machine.specs.Run.{Run, after_tick, loaded, tick_of}
+use Rattle.tcel_machine.specs.Run.{Run, after_tick, tick_of}
 use Rattle.tcel_tool.specs.Lines.{lines, tick_lines}
 use Rattle.std.proofs.lemmas.List.{map-append}
-use Rattle.std.proofs.lemmas.List.Concat.{concat_is, flat_map-append}
 
 after_one : (run : Run) (left : ℕ) → lines run (suc left) ≡ tick_lines run ++ lines (after_tick run) left
 after_one run left = map-append (line run.image) (option_to_list (tick_of run).entry) (entries run.image run.streams left (after_tick run).machine)

@@ -1,5 +1,5 @@
 -- How `run` goes on behind its image and behind its script.
-use Rattle.std.proofs.Common.{◌≡◌, ◌⊎◌, ℕ, ◌≤◌, List, [], ◌∷◌, Ok, Err, refl, ap, inl, inr, sym, ◌∙◌, subst}
+use Rattle.std.proofs.Common.{◌≡◌, ℕ, ◌≤◌, List, [], ◌∷◌, Ok, ap, inl, inr, ◌∙◌}
 use Rattle.tcel_io.specs.Shelf.{SeenShelf}
 use Rattle.tcel_image.specs.Machine.{Streams}
 use Rattle.tcel_image.specs.declared.image.Image.{Image}
@@ -11,7 +11,7 @@ use Rattle.tcel_tool.specs.CommandLine.{number_at}
 use Rattle.tcel_tool.specs.Commands.{stages_of}
 use Rattle.tcel_tool.specs.Lines.{lines}
 use Rattle.tcel_tool.specs.RunCommand.{IsImageIn, IsText, RefusesLines, RefusesScript, trace_lines}
-use Rattle.tcel_tool.specs.Stage.{Call, Stage, load, test}
+use Rattle.tcel_tool.specs.Stage.{Call, test}
 use Rattle.tcel_tool.specs.Test as tests
 use Rattle.tcel_tool.specs.declared.command.Command.TheVariants.{Run as run}
 use Rattle.tcel_tool.specs.declared.status.Status.{Status}

@@ -105,22 +105,23 @@ writes _ = false
 
 -- ---- completeness
 
--- with the bytes that are told under the words, no stage has a cause to stop the call
-abbrev pub NothingStops : (List ℕ → Option (List ℕ)) → List Stage → Call → Type 0
-NothingStops told [] call = Unit {0}
-NothingStops told (load word limit ∷ stages) call =
-    MatchOption (told (word_at call.words word)) ⊥ (λ bytes. (length bytes ≤ limit) × NothingStops told stages (with_read word bytes call))
-NothingStops told (bound kind word most ∷ stages) call = (number_at call.words word ≤ most) × NothingStops told stages call
-NothingStops told (test what ∷ stages) call = ((status : Status) → Refuses what call status → ⊥) × NothingStops told stages call
+-- with the bytes that are told under the words, this is the status of the first stage that has a cause to stop the call, or Ok where none has
+abbrev pub Decides : (List ℕ → Option (List ℕ)) → List Stage → Call → Status → Type 0
+Decides told [] call status = status ≡ statuses.Ok
+Decides told (load word limit ∷ stages) call status =
+    MatchOption (told (word_at call.words word)) ⊥ (λ bytes.
+    ((limit < length bytes) × (status ≡ statuses.Limit (limits.Bytes word limit)))
+    ⊎ ((length bytes ≤ limit) × Decides told stages (with_read word bytes call) status))
+Decides told (bound kind word most ∷ stages) call status =
+    IsAbove call.words kind word most status ⊎ ((number_at call.words word ≤ most) × Decides told stages call status)
+Decides told (test what ∷ stages) call status =
+    Refuses what call status ⊎ (((other : Status) → Refuses what call other → ⊥) × Decides told stages call status)
 
--- the command accepts its words and files
-abbrev pub Accepts : Command → (List ℕ → Option (List ℕ)) → List (List ℕ) → Type 0
-Accepts command told words = NothingStops told (stages_of command) (begun words)
+-- the words and the told bytes decide this status for the command
+abbrev pub IsDecided : Command → (List ℕ → Option (List ℕ)) → List (List ℕ) → Status → Type 0
+IsDecided command told words status = Decides told (stages_of command) (begun words) status
 
--- the call ended well, or for want of memory, at a file that can't be read, or at a fault of its output
-abbrev pub IsUnrefused : Status → Type 0
-IsUnrefused statuses.Ok = Unit {0}
-IsUnrefused statuses.NoMemory = Unit {0}
-IsUnrefused (statuses.ReadFault word) = Unit {0}
-IsUnrefused statuses.WriteFault = Unit {0}
-IsUnrefused _ = ⊥
+-- a call ended with the status that was decided; or memory ran out, a file couldn't be read, or the output had a fault while the text was put
+abbrev pub Agrees : Status → Status → Type 0
+Agrees decided status =
+    (status ≡ decided) ⊎ ((status ≡ statuses.NoMemory) ⊎ (((word : ℕ) × (status ≡ statuses.ReadFault word)) ⊎ ((decided ≡ statuses.Ok) × (status ≡ statuses.WriteFault))))

@@ -1,5 +1,6 @@
 pub mod Answer
 pub mod CanonicalText
+pub mod CommandExamples
 pub mod CommandLine
 pub mod Commands
 pub mod CompileCommand

@@ -1,16 +1,13 @@
 -- The command `run`: what it refuses, and what it writes.
-use Rattle.std.specs.Prelude.{◌≡◌, ◌≢◌, ℕ, ◌⊎◌, List, [], ◌∷◌, Err, Ok, map, codes}
+use Rattle.std.specs.Prelude.{◌≡◌, ◌≢◌, ℕ, List, [], ◌∷◌, Err, Ok, map, codes}
 use Rattle.tcel_image.specs.Machine.{Streams, trace}
 use Rattle.tcel_image.specs.Reading.{reading}
 use Rattle.tcel_image.specs.Spelling.{spelling, InRange}
 use Rattle.tcel_image.specs.TraceText.{line}
 use Rattle.tcel_image.specs.Validity.{IsValid, IsFirstFlaw}
-use Rattle.tcel_image.specs.declared.fault.ImageFail.{ImageFail}
 use Rattle.tcel_image.specs.declared.fault.ImageFail.TheVariants as image_fails
-use Rattle.tcel_image.specs.declared.flaw.Flaw.{Flaw}
 use Rattle.tcel_image.specs.declared.image.Image.{Image}
 use Rattle.tcel_script.specs.Script.{script_of}
-use Rattle.tcel_script.specs.declared.fail.ScriptFail.{ScriptFail}
 use Rattle.tcel_script.specs.declared.fail.ScriptFail.TheVariants as script_fails
 use Rattle.tcel_verify.specs.Ports.{port_rows}
 use Rattle.tcel_tool.specs.CommandLine.{number_at}

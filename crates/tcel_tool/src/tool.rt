@@ -1,11 +1,12 @@
 ghost use Rattle.std.specs.Prelude.{◌≡◌, ◌↔◌, ◌⊎◌, IsTrue, map, string_bytes};
 ghost use Rattle.tcel_io.specs.InTurn.{ArePut};
-ghost use Rattle.tcel_tool.specs.Answer.{Accepts, Does, IsUnrefused, status_of, writes};
+ghost use Rattle.tcel_tool.specs.Answer.{Agrees, Does, IsDecided, status_of, writes};
 ghost use Rattle.tcel_tool.specs.Commands.{HasForm, HaveNoForm};
 ghost use Rattle.tcel_tool.specs.CommandLine.{word_at};
 ghost use Rattle.tcel_tool.specs.CompileCommand.{IsCompiled};
 ghost use Rattle.tcel_tool.specs.FaultLine.{fault_pieces};
 ghost use Rattle.tcel_tool.specs.declared.command.Command.{Command};
+ghost use Rattle.tcel_tool.specs.declared.status.Status.{Status};
 
 use crate::command::{Command, command_of};
 use crate::compile::compile;
@@ -33,9 +34,9 @@ pub fn tcel<H: Shelf, K: Sink>(
     ensures no_loads { result ≡ Status.Words → H.seen shelf.new ≡ H.seen shelf.old }
     ensures untouched { IsTrue (writes result) ⊎ (out.new ≡ out.old) }
 
-    // Where the bytes are told and nothing in them is refused, nothing is.
-    ensures complete { (command : Command) → HasForm command (map string_bytes words.now)
-        → Accepts command (H.seen shelf.old).told (map string_bytes words.now) → IsUnrefused result }
+    // Where the bytes of the files are told, they decide the status, but for memory and for reads and puts that fail.
+    ensures exact { (command : Command) (status : Status) → HasForm command (map string_bytes words.now)
+        → IsDecided command (H.seen shelf.old).told (map string_bytes words.now) status → Agrees status result }
 
     // The fault line was put in its pieces, up to the first fault of `err`.
     ensures line { ArePut (fault_pieces (map string_bytes words.now) result) (K.seen err.old) (K.seen err.new) }

@@ -1,4 +1,4 @@
-use Rattle.std.proofs.Common.{◌≡◌, ◌∙◌, ℕ, List, [], ◌∷◌, Ok, inl, inr, refl, subst}
+use Rattle.std.proofs.Common.{◌∙◌, [], ◌∷◌, Ok, inl, inr, refl, subst}
 use Rattle.std.specs.Prelude.{map, string_bytes}
 use Rattle.tcel_tool.specs.Answer.{OrMemory}
 use Rattle.tcel_tool.specs.CompileCommand.{GivesCosts, IsText, IsTextOf, RefusesDemand, RefusesTarget}

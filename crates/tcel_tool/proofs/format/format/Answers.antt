@@ -1,4 +1,4 @@
-use Rattle.std.proofs.Common.{◌≡◌, ◌∙◌, ℕ, List, [], ◌∷◌, ap, inl, inr, refl, sym, subst}
+use Rattle.std.proofs.Common.{◌≡◌, ◌∙◌, ℕ, List, [], ◌∷◌, ap, inl, inr, refl, subst}
 use Rattle.tcel_show.specs.Text.{canonical_text}
 use Rattle.tcel_tree.specs.Plain.{plain_program}
 use Rattle.tcel_tool.specs.Answer.{OrMemory, begun, with_read}

@@ -1,4 +1,4 @@
-use Rattle.std.proofs.Common.{◌≡◌, Ok, refl, inl, inr, subst}
+use Rattle.std.proofs.Common.{◌≡◌, Ok, inl, inr, subst}
 use Rattle.std.specs.Prelude.{map, string_bytes}
 use Rattle.tcel_script.specs.Script.{script_of}
 use Rattle.tcel_verify.specs.Ports.{port_rows}
@@ -7,7 +7,6 @@ use Rattle.tcel_tool.specs.Lines.{lines}
 use Rattle.tcel_tool.specs.RunCommand.{IsImageIn, IsText, RefusesLines, RefusesScript}
 use Rattle.tcel_tool.proofs.Exits.{at_write_fault, cut_off, ended, stops, taken}
 use Rattle.tcel_tool.proofs.RunStages.{behind_image, behind_script, faulty_lines, lines_are, with_both}
-use Rattle.tcel_tool.proofs.Forms.{third_is_number}
 use Rattle.tcel_tool.proofs.run.run.Goals as goal
 
 pub returns-in_err-script-clause-goes : goal.returns-in_err-script-clause-goes

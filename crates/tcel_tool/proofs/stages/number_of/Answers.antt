@@ -1,6 +1,4 @@
-use Rattle.std.proofs.Common.{◌≤◌, ◌≡◌, true, length, get_or, sym, arith}
-use Rattle.std.specs.Char.{is_ascii_digit}
-use Rattle.std.proofs.lemmas.Bool.Decides.{nat_tests}
+use Rattle.std.proofs.Common.{get_or, sym, arith}
 use Rattle.tcel_script.proofs.Digits.{nineteen_fit, digit_most}
 use Rattle.tcel_tool.proofs.Forms.{few_digits, is_digit_at}
 use Rattle.tcel_tool.proofs.stages.number_of.Goals as goal

@@ -1,4 +1,4 @@
-use Rattle.std.proofs.Common.{◌≡◌, refl, subst}
+use Rattle.std.proofs.Common.{subst}
 use Rattle.std.specs.Prelude.{map, string_bytes}
 use Rattle.tcel_tool.specs.Answer.{Does, begun}
 use Rattle.tcel_tool.specs.Commands.{stages_of}

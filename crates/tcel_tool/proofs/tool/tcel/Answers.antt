@@ -3,18 +3,19 @@ use Rattle.std.specs.Prelude.{map, string_bytes}
 use Rattle.tcel_tool.specs.Answer.{begun}
 use Rattle.tcel_tool.specs.Commands.{stages_of}
 use Rattle.tcel_tool.specs.declared.command.Command.TheVariants.{Compile}
-use Rattle.tcel_tool.proofs.CallLaws.{unrefused}
+use Rattle.tcel_tool.proofs.CallLaws.{agrees}
 use Rattle.tcel_tool.proofs.CompileFacts.{compiled}
 use Rattle.tcel_tool.proofs.Exits.{at_end}
 use Rattle.tcel_tool.proofs.tool.tcel.Goals as goal
 
-pub returns-clause-complete : goal.returns-clause-complete
-returns-clause-complete g c =
+pub returns-clause-exact : goal.returns-clause-exact
+returns-clause-exact g c =
     let words = map string_bytes c.args.words.now in
     let shelf = g.H.Shelf.seen c.args.shelf.now in
     let done = c.answer-status in
     let end = at_end (g.H.Shelf.seen done.new.shelf) (g.K.Sink.seen c.args.out.now) (g.K.Sink.seen done.new.out) done.result in
-    λ command form accepts. unrefused command end shelf.told (stages_of command) (begun words) shelf refl (done.ensures.answer command form) accepts
+    λ command status form decided.
+    agrees command end shelf.told status (stages_of command) (begun words) shelf refl (done.ensures.answer command form) decided
 
 pub returns-clause-headline : goal.returns-clause-headline
 returns-clause-headline g c =
