@@ -25,7 +25,7 @@ module _ (s : Setting) where
   open s use {costs, ranges, task, inputs, vars, frame, stack}
 
   pub assign_runs : (v : ℕ) (e : Expr) → ActFits (assign v e) vars → ActDoes s (assign v e)
-  assign_runs v e fits m low p entry floor counter others taken order at_low stands =
+  assign_runs v e fits m low p entry floor counter others taken order has stands =
       let code = expr_code e vars 0 in
       let put = at 1 (Put (place vars v)) in
       let x = value e vars m.cells in
@@ -41,7 +41,7 @@ module _ (s : Setting) where
       (ahead_at s taken dues _ _ _ _ _ _ stack (cells ++ others) (omega arith) (omega arith) (omega (arith, length-append code put)) ahead)))
 
   pub assign_at_runs : (v : ℕ) (i e : Expr) → ActFits (assign_at v i e) vars → ActDoes s (assign_at v i e)
-  assign_at_runs v i e fits m low p entry floor counter others taken order at_low stands =
+  assign_at_runs v i e fits m low p entry floor counter others taken order has stands =
       let index = expr_code i vars 0 in
       let code = expr_code e vars 1 in
       let put = at 2 (PutAt (place vars v) (width vars v)) in
@@ -64,7 +64,7 @@ module _ (s : Setting) where
       (ahead_at s taken dues _ _ _ _ _ _ stack (cells ++ others) (omega arith) (omega arith) (omega (arith, length-append index (code ++ put), length-append code put)) ahead))))
 
   pub copy_runs : (a b : ℕ) → ActFits (copy a b) vars → ActDoes s (copy a b)
-  copy_runs a b fits m low p entry floor counter others taken order at_low stands =
+  copy_runs a b fits m low p entry floor counter others taken order has stands =
       let cells = copy_words vars m.cells a b in
       let words = order.words in
       let one = array_within vars a in
@@ -79,7 +79,7 @@ module _ (s : Setting) where
       (m.cells ++ others) (cells ++ others) stands.0 (λ spent. ap (λ l. quietly (ready_at costs (p + 1) stack l frame taken)) same) ahead)
 
   pub receive_runs : (v port : ℕ) → ActFits (receive v port) vars → ActDoes s (receive v port)
-  receive_runs v port scalar m low p entry floor counter others taken order at_low stands =
+  receive_runs v port scalar m low p entry floor counter others taken order has stands =
       let x = next_input m port in
       let words = order.words in
       let same = same_input inputs m.inputs taken port order.remain in
@@ -96,7 +96,7 @@ module _ (s : Setting) where
       early soon ahead)
 
   pub send_runs : (e : Expr) (port : ℕ) → ActFits (send e port) vars → ActDoes s (send e port)
-  send_runs e port sound m low p entry floor counter others taken order at_low stands =
+  send_runs e port sound m low p entry floor counter others taken order has stands =
       let code = expr_code e vars 0 in
       let out = at 1 (Send port) in
       let x = value e vars m.cells in

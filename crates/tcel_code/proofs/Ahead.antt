@@ -56,6 +56,18 @@ due_later (shows to step same early soon more) (suc k) due e = let g = due_later
 due_later {ran = ran} (ends step early soon) zero due e = subst (λ (d : Due). ran < d.by) (same_Some _ _ e) soon
 due_later (ends step early soon) (suc k) due e = absurd (none-some due e)
 
+-- the same entries, each due by so many ticks more
+abbrev pub put_off : ℕ → List Due → List Due
+put_off more [] = []
+put_off more (due ∷ dues) = record { by = due.by + more; promise = due.promise } ∷ put_off more dues
+
+-- so they are where the frame has run so many ticks more, or fewer than that
+pub ahead_off : {costs : Costs} {task : ImageTask} {inputs : List (List ℤ)} {last : Running} {ran since : ℕ} {r : Running} {dues : List Due} →
+    Ahead costs task inputs last ran since r dues → (more later : ℕ) → later ≤ ran + more → Ahead costs task inputs last later since r (put_off more dues)
+ahead_off (silent to step same on) more later h = silent to step same (λ now may. ahead_off (on now may) more (suc later) (omega arith))
+ahead_off (shows to step same early soon on) more later h = shows to step same early (omega arith) (ahead_off on more (suc later) (omega arith))
+ahead_off (ends step early soon) more later h = ends step early (omega arith)
+
 -- there is always an entry to come
 pub one_ahead : {costs : Costs} {task : ImageTask} {inputs : List (List ℤ)} {last : Running} {ran since : ℕ} {r : Running} {dues : List Due} →
     Ahead costs task inputs last ran since r dues → (due : Due) × (slice_get dues 0 ≡ Some due)

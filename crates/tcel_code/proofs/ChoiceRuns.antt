@@ -12,11 +12,12 @@ use Rattle.tcel_core.proofs.Remain.{takes}
 use Rattle.tcel_target.specs.declared.costs.CostKey.TheVariants as keys
 use Rattle.tcel_image.specs.declared.image.Instr.TheVariants.{Branch, Jump}
 use Rattle.tcel_image.specs.declared.image.Line.{Line}
+use Rattle.tcel_code.specs.Counters.{Counters, behind}
 use Rattle.tcel_code.specs.Code.{at, expr_code, block_code, stmt_code, branches_code, held_length}
 use Rattle.tcel_cost.specs.Expressions.{expr_cycles}
 use Rattle.tcel_cost.specs.Walks.{Then, Either, Passes, jump_cost}
 use Rattle.tcel_code.proofs.ExprRuns.{Stands, stands_front, stands_back}
-use Rattle.tcel_code.proofs.Runs.{BlockDoes, Goes, Runs, StmtDoes, goes_by, goes_lower, goes_to, pass_goes, stays_goes, test_goes, then_goes, then_quiet, with_fewer}
+use Rattle.tcel_code.proofs.Runs.{BlockDoes, Goes, Runs, StmtDoes, goes_by, goes_to, pass_goes, stays_goes, test_goes, then_goes, then_quiet}
 use Rattle.tcel_cost.proofs.RunWalks.{Given, RunWalks, StmtRunWalks}
 use Rattle.tcel_code.proofs.Steps.{Setting, quiet_step}
 
@@ -53,24 +54,25 @@ past_other s false m low from entry floor yes_code no_code others taken none sta
     let zero_long = none refl in stays_goes s m low (from + length yes_code) (from + length yes_code + length no_code) entry floor others taken (omega arith)
 
 -- a block without a statement has no code
-no_statement : (b : Block) (vars : List Var) (from counter : ℕ) → has_statement b ≡ false → length (block_code b vars from counter) ≡ 0
-no_statement done vars from counter none = refl
-no_statement (next stmt rest) vars from counter none = absurd (true≢false none)
+no_statement : (b : Block) (vars : List Var) (from : ℕ) (counters : Counters) → has_statement b ≡ false → length (block_code b vars from counters) ≡ 0
+no_statement done vars from counters none = refl
+no_statement (next stmt rest) vars from counters none = absurd (true≢false none)
 
 module _ (s : Setting) where
   open s use {costs, task, vars}
 
   -- where both its branches do what they mean, an `if` does
   pub choice_runs : (id : ℕ) (test : Expr) (held other : Block) → IsSound vars test → BlockDoes s held → BlockDoes s other → StmtDoes s (choice id test held other)
-  choice_runs id test held other sound held_does other_does m low p entry floor counter others taken order at_low stands =
+  choice_runs id test held other sound held_does other_does m low p entry floor counters others taken order has_counters stands =
       let before = expr_code test vars 0 in
       let test_cycles = expr_cycles costs test + costs.branch in
       let has = has_statement other in
       let yes_at = p + length before + 1 in
-      let yes_code = block_code held vars yes_at counter in
+      let yes_code = block_code held vars yes_at counters in
       let no_at = yes_at + held_length has (length yes_code) in
-      let other_code = block_code other vars no_at (counter + loops held) in
-      let none = no_statement other vars no_at (counter + loops held) in
+      let later = behind counters (loops held) in
+      let other_code = block_code other vars no_at later in
+      let none = no_statement other vars no_at later in
       let branches = branches_code has yes_at yes_code other_code in
       let branch = at 1 (Branch no_at) in
       let tested = stands_front task.code p (before ++ branch) branches (subst (Stands task.code p) (sym (append_assoc before branch branches)) stands) in
@@ -81,19 +83,19 @@ module _ (s : Setting) where
       let BranchWalks = Either (Then HeldWalks (Passes (jump_cost costs other))) OtherWalks in
       let end_at : no_at + length other_code ≡ p + length (before ++ (branch ++ branches)) = omega (arith, length-append before (branch ++ branches), length-branches has yes_at yes_code other_code none) in
       cond_both holds_now (exec held vars) (exec other vars)
-      (λ f. Runs s (StmtRunWalks (choice id test held other) vars costs m) (stmt_code (choice id test held other) vars p counter) (f m) low p entry floor m.cells others taken)
+      (λ f. Runs s (StmtRunWalks (choice id test held other) vars costs m) (stmt_code (choice id test held other) vars p counters) (f m) low p entry floor m.cells others taken)
       (λ is.
       let o = exec held vars m in
-      let does = held_does m low yes_at (entry + test_cycles) floor counter others taken (with_fewer s order (omega arith)) at_low (yes_stands task.code has yes_at yes_code other_code behind) in
+      let does = held_does m low yes_at (entry + test_cycles) floor counters others taken order has_counters.0 (yes_stands task.code has yes_at yes_code other_code behind) in
       let r = goes_by s HeldWalks does (λ from to es w. (is, w)) in
       let past = past_other s has o.memory low yes_at r.end floor yes_code other_code r.left (takes o.events taken) none behind in
       goes_to s
       (then_goes s (exec held vars) (test_goes s test sound true m low p no_at entry floor others taken order.words tested is) (goes_by s BranchWalks (then_quiet s r past) (λ from to es w. inl w)))
       end_at)
       (λ is.
-      let does = other_does m (low + loops held) no_at (entry + test_cycles) floor (counter + loops held) others taken (with_fewer s order (omega arith)) (omega arith)
+      let does = other_does m low no_at (entry + test_cycles) floor later others taken order has_counters.1
       (no_stands task.code has yes_at yes_code other_code none behind) in
       let r = goes_by s OtherWalks does (λ from to es w. (is, w)) in
       goes_to s
-      (then_goes s (exec other vars) (test_goes s test sound false m low p no_at entry floor others taken order.words tested is) (goes_by s BranchWalks (goes_lower s low r (omega arith)) (λ from to es w. inr w)))
+      (then_goes s (exec other vars) (test_goes s test sound false m low p no_at entry floor others taken order.words tested is) (goes_by s BranchWalks r (λ from to es w. inr w)))
       end_at)

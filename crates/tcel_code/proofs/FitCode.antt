@@ -1,10 +1,10 @@
 -- The lines of code are fit at their places.
-use Rattle.std.proofs.Common.{◌≡◌, ℕ, ◌+◌, ◌-◌, ◌<◌, ◌≤◌, Bool, true, false, cond, pos, List, [], ◌++◌, length, Option, None, Some, refl, sym, ap, ◌∙◌, subst, arith, length-append}
+use Rattle.std.proofs.Common.{◌≡◌, ℕ, suc, ◌+◌, ◌-◌, ◌<◌, ◌≤◌, Bool, true, false, cond, pos, List, [], ◌++◌, length, Option, None, Some, refl, sym, ap, ◌∙◌, subst, arith, length-append}
 use Rattle.std.specs.List.{AllByRecursion}
 use Rattle.std.proofs.lemmas.Bool.{false≢true}
 use Rattle.tcel_core.specs.declared.var.Var.{Var}
 use Rattle.tcel_core.specs.Cells.{all_words, place, width}
-use Rattle.tcel_core.specs.Contents.{has_statement, loops, stmt_loops, act_loops}
+use Rattle.tcel_core.specs.Contents.{has_statement, loops, stmt_loops}
 use Rattle.tcel_core.specs.Language.{Expr, number, variable, element, unary, binary, Block, done, next, Stmt, item, choice, timed, Act, assign, assign_at, receive, send, for_loop, while_loop, copy}
 use Rattle.tcel_core.specs.Scope.{Fits, StmtFits, ActFits, HaveOperands, IsInScope, HasWord, IsSound}
 use Rattle.tcel_core.proofs.Scope.{array_within}
@@ -17,7 +17,9 @@ use Rattle.tcel_image.specs.Validity.{is_end}
 use Rattle.tcel_image.proofs.FitLines.{Leads, PortIsThere, AreFit, fit-append}
 use Rattle.tcel_cost.specs.Hold.{hold_of}
 use Rattle.tcel_code.specs.Code.{at, expr_code, hold_code, held_length, branches_code, block_code, stmt_code, act_code}
+use Rattle.tcel_code.specs.Counters.{Counters, in_order, counter_of, behind}
 use Rattle.tcel_code.specs.Compilable.{IsWithin, StmtIsWithin, ActIsWithin, height}
+use Rattle.tcel_code.proofs.Counters.{HaveCounters, StmtHasCounters, ActHasCounters, ordered}
 use Rattle.tcel_code.proofs.ExprRuns.{Stands, stands_front, stands_back}
 
 height_some : (e : Expr) → 0 < height e
@@ -37,7 +39,7 @@ module _ (task : ImageTask) where
   leads_at : (depth p q : ℕ) → p ≡ q → Leads task.code depth p → Leads task.code depth q
   leads_at depth p q e h = subst (Leads task.code depth) e h
 
-  moved : (p q before after : ℕ) (lines : List Line) → p ≡ q → IsFitCode p before after lines → IsFitCode q before after lines
+  pub moved : (p q before after : ℕ) (lines : List Line) → p ≡ q → IsFitCode p before after lines → IsFitCode q before after lines
   moved p q before after lines e h = subst (λ n. IsFitCode n before after lines) e h
 
   -- one code behind another
@@ -217,55 +219,70 @@ module _ (task : ImageTask) where
                 (then_fit (p + 2 + length before + 1) 0 0 0 inner round body (round_fits (p + 2 + length before + 1 + length inner) counter turns (p + 2) room start))))).fit stands behind;
           }
 
+    module _ (room : ℕ) (enough : all_words vars + room ≤ task.cells) where
+      abbrev words_within : all_words vars ≤ task.cells
+      words_within = omega arith
+
       mutual
         -- the code of statements that fit
-        pub block_code_fits : (b : Block) → Fits b vars → IsWithin b (length task.inputs) (length task.outputs) → (p counter : ℕ) → counter + loops b ≤ task.cells → IsFitCode p 0 0 (block_code b vars p counter)
-        block_code_fits done fits within p counter room = nothing_fits p 0
-        block_code_fits (next s rest) fits within p counter room =
-            let first = stmt_code s vars p counter in
-            then_fit p 0 0 0 first (block_code rest vars (p + length first) (counter + stmt_loops s)) (stmt_code_fits s fits.0 within.0 p counter (omega arith))
-            (block_code_fits rest fits.1 within.1 (p + length first) (counter + stmt_loops s) (omega arith))
+        pub block_code_fits : (b : Block) → Fits b vars → IsWithin b (length task.inputs) (length task.outputs) → (p : ℕ) (counters : Counters) → HaveCounters b vars counters 0 room → IsFitCode p 0 0 (block_code b vars p counters)
+        block_code_fits done fits within p counters has = nothing_fits p 0
+        block_code_fits (next s rest) fits within p counters has =
+            let first = stmt_code s vars p counters in
+            let later = behind counters (stmt_loops s) in
+            then_fit p 0 0 0 first (block_code rest vars (p + length first) later) (stmt_code_fits s fits.0 within.0 p counters has.0) (block_code_fits rest fits.1 within.1 (p + length first) later has.1)
 
-        stmt_code_fits : (s : Stmt) → StmtFits s vars → StmtIsWithin s (length task.inputs) (length task.outputs) → (p counter : ℕ) → counter + stmt_loops s ≤ task.cells → IsFitCode p 0 0 (stmt_code s vars p counter)
-        stmt_code_fits (item id act) fits within p counter room = act_code_fits act fits within p counter room
-        stmt_code_fits (choice id test held other) fits within p counter room =
+        stmt_code_fits : (s : Stmt) → StmtFits s vars → StmtIsWithin s (length task.inputs) (length task.outputs) → (p : ℕ) (counters : Counters) → StmtHasCounters s vars counters 0 room → IsFitCode p 0 0 (stmt_code s vars p counters)
+        stmt_code_fits (item id act) fits within p counters has = act_code_fits act fits within p (counter_of counters id) has
+        stmt_code_fits (choice id test held other) fits within p counters has =
             let before = expr_code test vars 0 in
             let yes_at = p + length before + 1 in
-            let yes_code = block_code held vars yes_at counter in
+            let yes_code = block_code held vars yes_at counters in
             let no_at = yes_at + held_length (has_statement other) (length yes_code) in
             let low = within.0 in
-            choice_fits (has_statement other) p before yes_code (block_code other vars no_at (counter + loops held)) (value_fits test fits.0 0 p (omega arith))
-            (block_code_fits held fits.1 within.1 yes_at counter (omega arith)) (block_code_fits other fits.2 within.2 no_at (counter + loops held) (omega arith))
-        stmt_code_fits (timed id window body) fits within p counter room =
+            let later = behind counters (loops held) in
+            choice_fits (has_statement other) p before yes_code (block_code other vars no_at later) (value_fits words_within test fits.0 0 p (omega arith))
+            (block_code_fits held fits.1 within.1 yes_at counters has.0) (block_code_fits other fits.2 within.2 no_at later has.1)
+        stmt_code_fits (timed id window body) fits within p counters has =
             let hold = hold_code (hold_of window body) in
-            then_fit p 0 0 0 hold (block_code body vars (p + length hold) counter) (hold_code_fits (hold_of window body) p) (block_code_fits body fits within (p + length hold) counter room)
+            then_fit p 0 0 0 hold (block_code body vars (p + length hold) counters) (hold_code_fits (hold_of window body) p) (block_code_fits body fits within (p + length hold) counters has)
 
-        act_code_fits : (act : Act) → ActFits act vars → ActIsWithin act (length task.inputs) (length task.outputs) → (p counter : ℕ) → counter + act_loops act ≤ task.cells → IsFitCode p 0 0 (act_code act vars p counter)
-        act_code_fits (assign v e) fits within p counter room =
+        act_code_fits : (act : Act) → ActFits act vars → ActIsWithin act (length task.inputs) (length task.outputs) → (p counter : ℕ) → ActHasCounters act vars counter 0 room → IsFitCode p 0 0 (act_code act vars p counter)
+        act_code_fits (assign v e) fits within p counter has =
             let code = expr_code e vars 0 in
-            then_fit p 0 1 0 code (at 1 (Put (place vars v))) (value_fits e fits.1 0 p (omega arith)) (put_fits v (p + length code) fits.0)
-        act_code_fits (assign_at v i e) fits within p counter room =
+            then_fit p 0 1 0 code (at 1 (Put (place vars v))) (value_fits words_within e fits.1 0 p (omega arith)) (put_fits words_within v (p + length code) fits.0)
+        act_code_fits (assign_at v i e) fits within p counter has =
             let index = expr_code i vars 0 in
             let code = expr_code e vars 1 in
             let put = PutAt (place vars v) (width vars v) in
             let there = array_within vars v in
             let one = within.0 in
             let two = within.1 in
-            then_fit p 0 1 0 index (code ++ at 2 put) (value_fits i fits.0 0 p (omega arith))
-            (then_fit (p + length index) 1 2 0 code (at 2 put) (value_fits e fits.1 1 (p + length index) (omega arith))
+            then_fit p 0 1 0 index (code ++ at 2 put) (value_fits words_within i fits.0 0 p (omega arith))
+            (then_fit (p + length index) 1 2 0 code (at 2 put) (value_fits words_within e fits.1 1 (p + length index) (omega arith))
             (line_fits (p + length index + length code) 2 0 put (omega arith) (omega arith) (omega arith) (omega arith, tt) tt refl (λ h. (h, tt))))
-        act_code_fits (receive v port) fits within p counter room =
+        act_code_fits (receive v port) fits within p counter has =
             line_fits p 0 0 (Receive port (place vars v)) (omega arith) (omega arith) (omega arith) (omega arith, tt) within refl (λ h. (h, tt))
-        act_code_fits (send e port) fits within p counter room =
+        act_code_fits (send e port) fits within p counter has =
             let code = expr_code e vars 0 in
             let low = within.0 in
-            then_fit p 0 1 0 code (at 1 (Send port)) (value_fits e fits 0 p (omega arith)) (line_fits (p + length code) 1 0 (Send port) (omega arith) (omega arith) (omega arith) tt within.1 refl (λ h. (h, tt)))
-        act_code_fits (for_loop v turns body) fits within p counter room =
-            for_fits v turns p counter (block_code body vars (p + 4) (counter + 1)) fits.0 (omega arith) (block_code_fits body fits.2 within (p + 4) (counter + 1) (omega arith))
-        act_code_fits (while_loop test turns body) fits within p counter room =
+            then_fit p 0 1 0 code (at 1 (Send port)) (value_fits words_within e fits 0 p (omega arith)) (line_fits (p + length code) 1 0 (Send port) (omega arith) (omega arith) (omega arith) tt within.1 refl (λ h. (h, tt)))
+        act_code_fits (for_loop v turns body) fits within p counter has =
+            let own = has (omega arith) in
+            let at_number = own.at in
+            let in_room = own.within in
+            let inner = in_order (counter + 1) in
+            for_fits words_within v turns p counter (block_code body vars (p + 4) inner) fits.0 (omega arith)
+            (block_code_fits body fits.2 within (p + 4) inner (ordered vars 0 room body (counter + 1) (suc own.number) (omega arith) (omega arith) (omega arith)))
+        act_code_fits (while_loop test turns body) fits within p counter has =
+            let own = has (omega arith) in
+            let at_number = own.at in
+            let in_room = own.within in
+            let inner = in_order (counter + 1) in
             let body_at = p + 2 + length (expr_code test vars 0) + 1 in
-            while_fits test turns p counter (block_code body vars body_at (counter + 1)) fits.0 within.0 (omega arith) (block_code_fits body fits.2 within.1 body_at (counter + 1) (omega arith))
-        act_code_fits (copy a b) fits within p counter room =
+            while_fits words_within test turns p counter (block_code body vars body_at inner) fits.0 within.0 (omega arith)
+            (block_code_fits body fits.2 within.1 body_at inner (ordered vars 0 room body (counter + 1) (suc own.number) (omega arith) (omega arith) (omega arith)))
+        act_code_fits (copy a b) fits within p counter has =
             let one = array_within vars a in
             let two = array_within vars b in
             let same = fits.same in

@@ -13,11 +13,13 @@ use Rattle.tcel_core.proofs.Remain.{takes, takes-append}
 use Rattle.tcel_target.specs.declared.costs.CostKey.TheVariants as keys
 use Rattle.tcel_image.specs.declared.image.Instr.TheVariants.{Const, Get, Loop, Put}
 use Rattle.tcel_code.specs.Code.{at, act_code, block_code}
+use Rattle.tcel_code.specs.Counters.{in_order}
+use Rattle.tcel_code.proofs.Counters.{ordered}
 use Rattle.tcel_cost.specs.Walks.{Counts, ForWalks, Walks, Then, Rounds, Passes}
 use Rattle.tcel_code.proofs.Ahead.{quietly}
 use Rattle.tcel_code.proofs.ExprRuns.{Stands, stands_front, stands_back}
 use Rattle.tcel_code.proofs.LoopRuns.{LoopIn, AtTurn, GoesToTurn, loop_end, after_turns, begin_goes, begun, counter_word, turn_goes}
-use Rattle.tcel_code.proofs.Runs.{ActDoes, BlockDoes, Goes, InOrder, goes_by, goes_to, pass_goes, stays_goes, then_goes}
+use Rattle.tcel_code.proofs.Runs.{ActDoes, BlockDoes, Goes, InOrder, goes_by, goes_lower, goes_to, pass_goes, stays_goes, then_goes}
 use Rattle.tcel_cost.proofs.RunWalks.{run_walk}
 use Rattle.tcel_code.proofs.Steps.{Setting, LineAt, ready_at, ahead_at, quiet_step}
 
@@ -73,8 +75,8 @@ module _ (s : Setting) (l : LoopIn s) (v : ℕ) (scalar : HasWord s.vars v) (get
       (quiet_step s taken dues (Put (place vars v)) 1 (λ now r. refl) (ranges keys.Store).0 (top + 1) body_at (ran + costs.load) (since + costs.load) (pos j ∷ stack) stack (m.cells ++ others) (m'.cells ++ others) put
       (λ spent. ap (λ w. quietly (ready_at costs (top + 1 + 1) stack w frame taken)) same ∙ ap (λ k. quietly (ready_at costs k stack (m'.cells ++ others) frame taken)) at_body)
       (ahead_at s taken dues _ _ _ _ body_at body_at stack (m'.cells ++ others) (omega arith) (omega arith) refl ahead))) in
-      let order : InOrder s m' (low + (1 + loops body)) others taken = record { words = length-set m.cells (place vars v) (pos j) ∙ words; room = now.order.room; remain = now.order.remain } in
-      let rest = turn_goes s l j m' (entry + (costs.load + costs.store)) others taken (record { order = order; counted = now.counted }) less in
+      let order : InOrder s m' taken = record { words = length-set m.cells (place vars v) (pos j) ∙ words; remain = now.order.remain } in
+      let rest = turn_goes s l j m' (entry + (costs.load + costs.store)) others taken (record { order = order; room = now.room; counted = now.counted }) less in
       (then_goes s (exec body vars) first rest.0, rest.1)
 
   -- so many rounds
@@ -93,11 +95,11 @@ module _ (s : Setting) (l : LoopIn s) (v : ℕ) (scalar : HasWord s.vars v) (get
       )
 
   -- the whole loop
-  for_goes : (m : Memory) (p q entry : ℕ) (others : List ℤ) (taken : List ℕ) → InOrder s m (low + (1 + loops body)) others taken → LineAt s p 0 (Const (pos 0)) → LineAt s (p + 1) 1 (Put counter) →
+  for_goes : (m : Memory) (p q entry : ℕ) (others : List ℤ) (taken : List ℕ) → InOrder s m taken → low + (1 + loops body) ≤ length others → LineAt s p 0 (Const (pos 0)) → LineAt s (p + 1) 1 (Put counter) →
       p + 2 ≡ top → loop_end s l ≡ q → Goes s (ForWalks costs turns (Walks body vars costs)) (rounds turns for_round m) low p q entry floor m.cells others taken
-  for_goes m p q entry others taken order one two at_top at_end =
+  for_goes m p q entry others taken order room one two at_top at_end =
       let first = begin_goes s l m p entry others taken order.words one two at_top in
-      let rest = for_turns m first.end first.left taken (begun s l m others taken order) turns (omega arith) in
+      let rest = for_turns m first.end first.left taken (begun s l m others taken order room) turns (omega arith) in
       goes_to s (then_goes s (rounds turns for_round) first rest.0) (cond-false (nat_lt turns turns) top (loop_end s l) (le-ltb turns turns (omega arith)) ∙ at_end)
 
 module _ (s : Setting) where
@@ -105,8 +107,10 @@ module _ (s : Setting) where
 
   -- where its body does what it means, a `for` does
   pub for_runs : (v n : ℕ) (body : Block) → ActFits (for_loop v n body) vars → BlockDoes s body → ActDoes s (for_loop v n body)
-  for_runs v n body fits body_does m low p entry floor counter others taken order at_low stands =
-      let code = block_code body vars (p + 4) (counter + 1) in
+  for_runs v n body fits body_does m low p entry floor counter others taken order has stands =
+      let own = has (omega arith) in
+      let number = own.number in
+      let code = block_code body vars (p + 4) (in_order (counter + 1)) in
       let line = at 0 (Loop counter n (p + 2)) in
       let two : p + 1 + 1 ≡ p + 2 = omega arith in
       let three : p + 1 + 1 + 1 ≡ p + 2 + 1 = omega arith in
@@ -114,23 +118,27 @@ module _ (s : Setting) where
       let get = subst (λ k. LineAt s k 0 (Get counter)) two stands.1.1.0 in
       let put = subst (λ k. LineAt s k 1 (Put (place vars v))) three stands.1.1.1.0 in
       let behind = subst (λ k. Stands task.code k (code ++ line)) four stands.1.1.1.1 in
+      let at_number = own.at in
       let l : LoopIn s = record {
         turns = n;
         are_turns = fits.1;
         body = body;
         fits = fits.2;
         counter = counter;
-        low = low;
-        at_low = at_low;
+        low = number;
+        at_low = own.at;
         top = p + 2;
         body_at = p + 4;
         code = code;
         floor = floor;
         body_goes =
-            λ m' entry' others' taken' order'.
+            λ m' entry' others' taken' order' room'.
             goes_by s (Walks body vars s.costs)
-            (body_does m' (suc low) (p + 4) entry' floor (counter + 1) others' taken' order' (omega arith) (stands_front task.code (p + 4) code line behind))
+            (body_does m' (suc number) (p + 4) entry' floor (in_order (counter + 1)) others' taken' order'
+            (ordered vars (suc number) (length others') body (counter + 1) (suc number) (omega arith) (omega arith) room') (stands_front task.code (p + 4) code line behind))
             (run_walk body vars s.costs m');
         count = (stands_back task.code (p + 4) code line behind).0;
       } in
-      for_goes s l v fits.0 get put (omega arith) m p (p + length (act_code (for_loop v n body) vars p counter)) entry others taken order stands.0 stands.1.0 refl (omega (arith, length-append code line))
+      goes_lower s low
+      (for_goes s l v fits.0 get put (omega arith) m p (p + length (act_code (for_loop v n body) vars p counter)) entry others taken order own.within stands.0 stands.1.0 refl (omega (arith, length-append code line)))
+      own.above

@@ -4,6 +4,7 @@ pub mod Steps
 pub mod ExprRuns
 pub mod Inputs
 pub mod Dues
+pub mod Counters
 pub mod Runs
 pub mod ActRuns
 pub mod ChoiceRuns
@@ -15,11 +16,16 @@ pub mod BodyRuns
 pub mod StateWords
 pub mod Progress
 pub mod TaskMeets
-pub mod WholeFrames
+pub mod FormFrames
 pub mod SetRuns
 pub mod SetMeets
-pub mod WholeSets
+pub mod FormSets
 pub mod NeverLateSets
 pub mod FitCode
 pub mod ValidImages
 pub mod WindowedExample
+pub mod InTime
+pub mod FormExamples
+pub mod SliceForms
+pub mod SpelledImages
+pub mod Abreast

@@ -1,5 +1,5 @@
 -- What the loops share: a counter behind the words of the variables, and a body with the count behind it.
-use Rattle.std.proofs.Common.{pos, ◌≡◌, ℕ, suc, ◌+◌, ◌-◌, ◌<◌, cond, ℤ, List, ◌∷◌, ◌++◌, length, get_or, set, refl, ap, ◌∙◌, arith, rules}
+use Rattle.std.proofs.Common.{pos, ◌≡◌, ℕ, suc, ◌+◌, ◌-◌, ◌<◌, ◌≤◌, cond, ℤ, List, ◌∷◌, ◌++◌, length, get_or, set, refl, ap, ◌∙◌, arith, rules}
 use Rattle.std.specs.Prelude.{◌+ℤ◌, ◌^◌, nat_lt, int_lt}
 use Rattle.std.specs.Int.{w64}
 use Rattle.std.proofs.lemmas.Int.{int_wrap_fits}
@@ -19,7 +19,7 @@ use Rattle.tcel_image.specs.declared.image.Instr.TheVariants.{Const, Loop, Put}
 use Rattle.tcel_image.specs.declared.image.Line.{Line}
 use Rattle.tcel_cost.specs.Walks.{Counts, Walks, Then, Passes}
 use Rattle.tcel_code.proofs.Ahead.{quietly}
-use Rattle.tcel_code.proofs.Runs.{Goes, Runs, InOrder, goes_lower, pass_goes, then_quiet, with_fewer}
+use Rattle.tcel_code.proofs.Runs.{Goes, Runs, InOrder, goes_lower, pass_goes, then_quiet}
 use Rattle.tcel_code.proofs.Steps.{Setting, LineAt, ready_at, ahead_at, quiet_step}
 
 -- a counter counts on
@@ -51,7 +51,7 @@ pub record LoopIn (s : Setting) : Type 0 where
   pub body_at : ℕ
   pub code : List Line
   pub floor : ℕ
-  pub body_goes : (m : Memory) (entry : ℕ) (others : List ℤ) (taken : List ℕ) → InOrder s m (suc low + loops body) others taken →
+  pub body_goes : (m : Memory) (entry : ℕ) (others : List ℤ) (taken : List ℕ) → InOrder s m taken → suc low + loops body ≤ length others →
       Runs s (Walks body s.vars s.costs) code (exec body s.vars m) (suc low) body_at entry floor m.cells others taken
   pub count : LineAt s (body_at + length code) 0 (Loop counter turns top)
 
@@ -69,7 +69,8 @@ module _ (s : Setting) (l : LoopIn s) where
 
   -- what a walk finds when so many turns are done
   pub record AtTurn (j : ℕ) (m : Memory) (others : List ℤ) (taken : List ℕ) : Type 0 where
-    pub order : InOrder s m (low + (1 + loops body)) others taken
+    pub order : InOrder s m taken
+    pub room : low + (1 + loops body) ≤ length others
     pub counted : get_or others low (pos 0) ≡ pos j
 
   -- from a place to where so many turns are done
@@ -92,11 +93,11 @@ module _ (s : Setting) (l : LoopIn s) where
       (λ spent. ap (λ l. quietly (ready_at costs (p + 1 + 1) stack l frame taken)) (counter_set vars m.cells others counter low (pos 0) words at_low) ∙ ap (λ k. quietly (ready_at costs k stack (m.cells ++ others') frame taken)) on)
       (ahead_at s taken dues _ _ _ _ top top stack (m.cells ++ others') (omega arith) (omega arith) refl ahead)))
 
-  pub begun : (m : Memory) (others : List ℤ) (taken : List ℕ) → InOrder s m (low + (1 + loops body)) others taken → AtTurn 0 m (set others low (pos 0)) taken
-  begun m others taken order =
-      let same = length-set others low (pos 0) in
-      let room = order.room in record {
-        order = record { words = order.words; room = omega arith; remain = order.remain };
+  pub begun : (m : Memory) (others : List ℤ) (taken : List ℕ) → InOrder s m taken → low + (1 + loops body) ≤ length others → AtTurn 0 m (set others low (pos 0)) taken
+  begun m others taken order room =
+      let same = length-set others low (pos 0) in record {
+        order = order;
+        room = omega arith;
         counted = get_or-set_same others low (pos 0) (pos 0) (omega arith);
       }
 
@@ -123,15 +124,16 @@ module _ (s : Setting) (l : LoopIn s) where
   pub turn_goes : (j : ℕ) (m : Memory) (entry : ℕ) (others : List ℤ) (taken : List ℕ) → AtTurn j m others taken → j < turns →
       GoesToTurn (Then (Walks body vars costs) (Passes costs.loop_)) (exec body vars m) (suc j) body_at entry m others taken
   turn_goes j m entry others taken now less =
-      let room = now.order.room in
-      let r = l.body_goes m entry others taken (with_fewer s now.order (omega arith)) in
+      let room = now.room in
+      let r = l.body_goes m entry others taken now.order (omega arith) in
       let o = exec body vars m in
       let words = block_words body vars fits m now.order.words in
       let same = r.as_many in
       let longer = length-set r.left low (pos (suc j)) in (
         then_quiet s (goes_lower s low r (omega arith)) (count_goes j o.memory r.end r.left (takes o.events taken) words (r.kept low (omega arith) ∙ now.counted) less),
         record {
-          order = record { words = words; room = omega arith; remain = block_remains body vars fits inputs m taken now.order.remain };
+          order = record { words = words; remain = block_remains body vars fits inputs m taken now.order.remain };
+          room = omega arith;
           counted = get_or-set_same r.left low (pos (suc j)) (pos 0) (omega arith);
         },
       )

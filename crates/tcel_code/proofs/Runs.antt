@@ -3,7 +3,6 @@ use Rattle.std.proofs.Common.{pos, ◌≡◌, ℕ, suc, ◌+◌, ◌*◌, ◌<�
 use Rattle.tcel_num.specs.Arithmetic.{holds}
 use Rattle.tcel_core.specs.declared.event.EventKind.{EventKind}
 use Rattle.tcel_core.specs.Cells.{all_words}
-use Rattle.tcel_core.specs.Contents.{act_loops, stmt_loops, loops}
 use Rattle.tcel_core.specs.Language.{Expr, Block, Stmt, Act}
 use Rattle.tcel_core.specs.Meaning.{exec, exec_act, exec_stmt, value}
 use Rattle.tcel_core.specs.Outcome.{Memory, Occurrence, Outcome, event, quiet, then_run}
@@ -15,7 +14,9 @@ use Rattle.tcel_image.specs.declared.image.Line.{Line}
 use Rattle.tcel_code.specs.Code.{at, expr_code, block_code, stmt_code, act_code}
 use Rattle.tcel_cost.specs.Expressions.{expr_cycles}
 use Rattle.tcel_cost.specs.Walks.{Counts, ActWalks, Then, Passes, Shows}
+use Rattle.tcel_code.specs.Counters.{Counters}
 use Rattle.tcel_code.proofs.Ahead.{Due}
+use Rattle.tcel_code.proofs.Counters.{HaveCounters, StmtHasCounters, ActHasCounters}
 use Rattle.tcel_code.proofs.Dues.{AllSuit, suit_split, no_dues, one_due}
 use Rattle.tcel_code.proofs.ExprRuns.{Stands, test_runs}
 use Rattle.tcel_cost.proofs.RunWalks.{RunWalks, StmtRunWalks}
@@ -56,29 +57,26 @@ module _ (s : Setting) where
   abbrev pub Runs : Counts → List Line → Outcome → (low p entry floor : ℕ) (cells others : List ℤ) (taken : List ℕ) → Type 0
   Runs walks code outcome low p entry floor cells others taken = Goes walks outcome low p (p + length code) entry floor cells others taken
 
-  -- what statements find: the words of the variables, behind them so many words for counters, and inputs that have left what wasn't taken
-  pub record InOrder (m : Memory) (counters : ℕ) (others : List ℤ) (taken : List ℕ) : Type 0 where
+  -- what statements find: the words of the variables, and inputs that have left what wasn't taken
+  pub record InOrder (m : Memory) (taken : List ℕ) : Type 0 where
     pub words : length m.cells ≡ all_words vars
-    pub room : counters ≤ length others
     pub remain : Remain inputs m.inputs taken
 
-  pub with_fewer : {m : Memory} {few many : ℕ} {others : List ℤ} {taken : List ℕ} → InOrder m many others taken → few ≤ many → InOrder m few others taken
-  with_fewer order le = let room = order.room in record { words = order.words; room = omega arith; remain = order.remain }
-
-  -- code does what statements mean, along a walk of the run's own, wherever it stands and whenever the walk comes to it; the counters of its loops stand behind those of the loops around it
-  abbrev pub Does : (walks : Memory → Counts) (code : ℕ → ℕ → List Line) (means : Memory → Outcome) (counters : ℕ) → Type 0
-  Does walks code means counters =
-      (m : Memory) (low p entry floor counter : ℕ) (others : List ℤ) (taken : List ℕ) → InOrder m (low + counters) others taken → counter ≡ all_words vars + low → Stands task.code p (code p counter) →
-      Runs (walks m) (code p counter) (means m) low p entry floor m.cells others taken
+  -- code with counters does what statements mean, along a walk of the run's own, wherever it stands and whenever the walk comes to it; the counters of its loops stand behind those of the
+  -- loops around it
+  abbrev pub Does : (C : Type 0) (walks : Memory → Counts) (code : ℕ → C → List Line) (means : Memory → Outcome) (has : C → (low room : ℕ) → Type 0) → Type 0
+  Does C walks code means has =
+      (m : Memory) (low p entry floor : ℕ) (counters : C) (others : List ℤ) (taken : List ℕ) → InOrder m taken → has counters low (length others) → Stands task.code p (code p counters) →
+      Runs (walks m) (code p counters) (means m) low p entry floor m.cells others taken
 
   abbrev pub BlockDoes : Block → Type 0
-  BlockDoes b = Does (RunWalks b vars costs) (block_code b vars) (exec b vars) (loops b)
+  BlockDoes b = Does Counters (RunWalks b vars costs) (block_code b vars) (exec b vars) (HaveCounters b vars)
 
   abbrev pub StmtDoes : Stmt → Type 0
-  StmtDoes stmt = Does (StmtRunWalks stmt vars costs) (stmt_code stmt vars) (exec_stmt stmt vars) (stmt_loops stmt)
+  StmtDoes stmt = Does Counters (StmtRunWalks stmt vars costs) (stmt_code stmt vars) (exec_stmt stmt vars) (StmtHasCounters stmt vars)
 
   abbrev pub ActDoes : Act → Type 0
-  ActDoes act = Does (λ m. ActWalks act vars costs) (act_code act vars) (exec_act act vars) (act_loops act)
+  ActDoes act = Does ℕ (λ m. ActWalks act vars costs) (act_code act vars) (exec_act act vars) (ActHasCounters act vars)
 
   -- ---- the same, in other words
 

@@ -60,12 +60,12 @@ module _ (s : Setting) where
 
   -- where its body does what it means, a `do` block does
   pub timed_runs : (id : ℕ) (window : Window) (body : Block) → Fits body vars → BlockDoes s body → StmtDoes s (timed id window body)
-  timed_runs id window body fits body_does m low p entry floor counter others taken order at_low stands =
+  timed_runs id window body fits body_does m low p entry floor counters others taken order has stands =
       let hold = hold_of window body in
       let from = p + length (hold_code hold) in
-      let code = block_code body vars from counter in
+      let code = block_code body vars from counters in
       let o = exec body vars m in
-      let r = body_does m low from (held_entry hold entry) (inner_floor floor hold) counter others taken order at_low (stands_back task.code p (hold_code hold) code stands) in
+      let r = body_does m low from (held_entry hold entry) (inner_floor floor hold) counters others taken order has (stands_back task.code p (hold_code hold) code stands) in
       let end_at : p + length (hold_code hold ++ code) ≡ from + length code = omega (arith, length-append (hold_code hold) code) in
       let taken_same = takes-enclosed id window true o.events taken in record {
         end = r.end;

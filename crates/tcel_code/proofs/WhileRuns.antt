@@ -1,5 +1,5 @@
 -- The code of a `while`: its counter begins at 0, and a round tests, runs the body and counts.
-use Rattle.std.proofs.Common.{pos, ◌≡◌, ℕ, zero, suc, ◌+◌, ◌<◌, Bool, true, false, ℤ, List, [], ◌++◌, length, refl, sym, ap, ◌∙◌, subst, arith, append_assoc, length-append, inl, inr}
+use Rattle.std.proofs.Common.{pos, ◌≡◌, ℕ, zero, suc, ◌+◌, ◌<◌, ◌≤◌, Bool, true, false, ℤ, List, [], ◌++◌, length, refl, sym, ap, ◌∙◌, subst, arith, append_assoc, length-append, inl, inr}
 use Rattle.std.specs.Prelude.{nat_lt}
 use Rattle.std.proofs.lemmas.Bool.{lt-ltb, le-ltb, cond-false, cond_both, cond-true}
 use Rattle.tcel_num.specs.Arithmetic.{holds}
@@ -11,11 +11,13 @@ use Rattle.tcel_core.specs.Scope.{ActFits, IsSound}
 use Rattle.tcel_core.proofs.Remain.{takes}
 use Rattle.tcel_image.specs.declared.image.Instr.TheVariants.{Branch, Const, Loop, Put}
 use Rattle.tcel_code.specs.Code.{at, expr_code, act_code, block_code}
+use Rattle.tcel_code.specs.Counters.{in_order}
+use Rattle.tcel_code.proofs.Counters.{ordered}
 use Rattle.tcel_cost.specs.Expressions.{expr_cycles}
 use Rattle.tcel_cost.specs.Walks.{Counts, WhileWalks, Walks, Then, RoundsUpTo, Passes}
 use Rattle.tcel_code.proofs.ExprRuns.{Stands, stands_front, stands_back}
 use Rattle.tcel_code.proofs.LoopRuns.{LoopIn, AtTurn, loop_end, after_turns, begin_goes, begun, turn_goes}
-use Rattle.tcel_code.proofs.Runs.{ActDoes, BlockDoes, Goes, InOrder, goes_by, goes_from, goes_to, stays_goes, test_goes, then_goes}
+use Rattle.tcel_code.proofs.Runs.{ActDoes, BlockDoes, Goes, InOrder, goes_by, goes_from, goes_lower, goes_to, stays_goes, test_goes, then_goes}
 use Rattle.tcel_cost.proofs.RunWalks.{run_walk}
 use Rattle.tcel_code.proofs.Steps.{Setting, LineAt}
 
@@ -76,12 +78,12 @@ module _ (s : Setting) (l : LoopIn s) (test : Expr) (sound : IsSound s.vars test
       at_top
 
   -- the whole loop
-  while_goes : (m : Memory) (p q entry : ℕ) (others : List ℤ) (taken : List ℕ) → InOrder s m (low + (1 + loops body)) others taken → LineAt s p 0 (Const (pos 0)) → LineAt s (p + 1) 1 (Put counter) →
+  while_goes : (m : Memory) (p q entry : ℕ) (others : List ℤ) (taken : List ℕ) → InOrder s m taken → low + (1 + loops body) ≤ length others → LineAt s p 0 (Const (pos 0)) → LineAt s (p + 1) 1 (Put counter) →
       p + 2 ≡ top → loop_end s l ≡ q → Goes s (WhileWalks costs test_cycles turns (Walks body vars costs)) (rounds_while turns holds_in (exec body vars) m) low p q entry floor m.cells others taken
-  while_goes m p q entry others taken order one two at_top at_end =
+  while_goes m p q entry others taken order room one two at_top at_end =
       let some = are_turns.some in
       let first = begin_goes s l m p entry others taken order.words one two at_top in
-      let rest = while_turns turns 0 (omega arith) m first.end first.left taken (begun s l m others taken order) in
+      let rest = while_turns turns 0 (omega arith) m first.end first.left taken (begun s l m others taken order room) in
       goes_to s (then_goes s (rounds_while turns holds_in (exec body vars)) first (goes_from s rest (cond-true (nat_lt 0 turns) top (loop_end s l) (lt-ltb 0 turns some)))) at_end
 
 module _ (s : Setting) where
@@ -89,10 +91,13 @@ module _ (s : Setting) where
 
   -- where its body does what it means, a `while` does
   pub while_runs : (test : Expr) (n : ℕ) (body : Block) → ActFits (while_loop test n body) vars → BlockDoes s body → ActDoes s (while_loop test n body)
-  while_runs test n body fits body_does m low p entry floor counter others taken order at_low stands =
+  while_runs test n body fits body_does m low p entry floor counter others taken order has stands =
+      let own = has (omega arith) in
+      let number = own.number in
+      let at_number = own.at in
       let before = expr_code test vars 0 in
       let from = p + 2 + length before + 1 in
-      let code = block_code body vars from (counter + 1) in
+      let code = block_code body vars from (in_order (counter + 1)) in
       let line = at 0 (Loop counter n (p + 2)) in
       let branch = at 1 (Branch (from + length code + 1)) in
       let two : p + 1 + 1 ≡ p + 2 = omega arith in
@@ -105,18 +110,21 @@ module _ (s : Setting) where
         body = body;
         fits = fits.2;
         counter = counter;
-        low = low;
-        at_low = at_low;
+        low = number;
+        at_low = own.at;
         top = p + 2;
         body_at = from;
         code = code;
         floor = floor;
         body_goes =
-            λ m' entry' others' taken' order'.
+            λ m' entry' others' taken' order' room'.
             goes_by s (Walks body vars s.costs)
-            (body_does m' (suc low) from entry' floor (counter + 1) others' taken' order' (omega arith) (stands_front task.code from code line body_stands))
+            (body_does m' (suc number) from entry' floor (in_order (counter + 1)) others' taken' order'
+            (ordered vars (suc number) (length others') body (counter + 1) (suc number) (omega arith) (omega arith) room') (stands_front task.code from code line body_stands))
             (run_walk body vars s.costs m');
         count = (stands_back task.code from code line body_stands).0;
       } in
-      while_goes s l test fits.0 tested refl m p (p + length (act_code (while_loop test n body) vars p counter)) entry others taken order stands.0 stands.1.0 refl
-      (omega (arith, length-append before (branch ++ (code ++ line)), length-append code line))
+      goes_lower s low
+      (while_goes s l test fits.0 tested refl m p (p + length (act_code (while_loop test n body) vars p counter)) entry others taken order own.within stands.0 stands.1.0 refl
+      (omega (arith, length-append before (branch ++ (code ++ line)), length-append code line)))
+      own.above

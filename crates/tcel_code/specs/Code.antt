@@ -1,13 +1,14 @@
 -- The code of expressions and bodies. A line has the depth of the stack before it; targets are places in the task's code.
 use Rattle.std.specs.Prelude.{ℕ, ◌+◌, pos, Bool, true, false, List, [], ◌∷◌, ◌++◌, length, Option, None, Some}
 use Rattle.tcel_core.specs.declared.var.Var.{Var}
-use Rattle.tcel_core.specs.Cells.{all_words, place, width}
+use Rattle.tcel_core.specs.Cells.{place, width}
 use Rattle.tcel_core.specs.Contents.{has_statement, loops, stmt_loops}
 use Rattle.tcel_core.specs.Language.{Expr, number, variable, element, unary, binary, Block, done, next, Stmt, item, choice, timed, Act, assign, assign_at, receive, send, for_loop, while_loop, copy}
 use Rattle.tcel_cost.specs.Hold.{hold_of}
 use Rattle.tcel_image.specs.declared.image.Line.{Line}
 use Rattle.tcel_image.specs.declared.image.Instr.{Instr}
 use Rattle.tcel_image.specs.declared.image.Instr.TheVariants.{Const, Get, Put, GetAt, PutAt, Arith, Jump, Branch, Loop, Receive, Send, Hold, Copy, Mark, End}
+use Rattle.tcel_code.specs.Counters.{Counters, in_order, counter_of, behind, counters_of}
 
 -- one line of code
 abbrev pub at : ℕ → Instr → List Line
@@ -37,26 +38,26 @@ abbrev pub held_length : Bool → ℕ → ℕ
 held_length true n = n + 1
 held_length false n = n
 
--- the code of statements from a place in the task's code on; the counters of their loops begin at a cell
+-- the code of statements from a place in the task's code on, with the counters of their loops
 abbrev mutual
-  pub block_code : Block → List Var → ℕ → ℕ → List Line
-  block_code done vars from counter = []
-  block_code (next s rest) vars from counter =
-      let first = stmt_code s vars from counter in
-      first ++ block_code rest vars (from + length first) (counter + stmt_loops s)
+  pub block_code : Block → List Var → ℕ → Counters → List Line
+  block_code done vars from counters = []
+  block_code (next s rest) vars from counters =
+      let first = stmt_code s vars from counters in
+      first ++ block_code rest vars (from + length first) (behind counters (stmt_loops s))
 
-  pub stmt_code : Stmt → List Var → ℕ → ℕ → List Line
-  stmt_code (item id act) vars from counter = act_code act vars from counter
-  stmt_code (choice id test held other) vars from counter =
+  pub stmt_code : Stmt → List Var → ℕ → Counters → List Line
+  stmt_code (item id act) vars from counters = act_code act vars from (counter_of counters id)
+  stmt_code (choice id test held other) vars from counters =
       let before = expr_code test vars 0 in
       let yes_at = from + length before + 1 in
-      let yes = block_code held vars yes_at counter in
+      let yes = block_code held vars yes_at counters in
       let no_at = yes_at + held_length (has_statement other) (length yes) in
-      let no = block_code other vars no_at (counter + loops held) in
+      let no = block_code other vars no_at (behind counters (loops held)) in
       before ++ (at 1 (Branch no_at) ++ branches_code (has_statement other) yes_at yes no)
-  stmt_code (timed id window body) vars from counter =
+  stmt_code (timed id window body) vars from counters =
       let hold = hold_code (hold_of window body) in
-      hold ++ block_code body vars (from + length hold) counter
+      hold ++ block_code body vars (from + length hold) counters
 
   pub act_code : Act → List Var → ℕ → ℕ → List Line
   act_code (assign v e) vars from counter = expr_code e vars 0 ++ at 1 (Put (place vars v))
@@ -70,12 +71,12 @@ abbrev mutual
       ++ (at 1 (Put counter)
       ++ (at 0 (Get counter)
       ++ (at 1 (Put (place vars v))
-      ++ (block_code body vars (from + 4) (counter + 1)
+      ++ (block_code body vars (from + 4) (in_order (counter + 1))
       ++ at 0 (Loop counter turns (from + 2))))))
   act_code (while_loop test turns body) vars from counter =
       let before = expr_code test vars 0 in
       let body_at = from + 2 + length before + 1 in
-      let inner = block_code body vars body_at (counter + 1) in
+      let inner = block_code body vars body_at (in_order (counter + 1)) in
       at 0 (Const (pos 0))
       ++ (at 1 (Put counter)
       ++ (before
@@ -83,6 +84,12 @@ abbrev mutual
       ++ (inner
       ++ at 0 (Loop counter turns (from + 2))))))
 
--- the code of a task that is not sliced: its body, the mark and the end
+-- the code of a frame: its first part, the mark, its rest and the end
+abbrev pub frame_code : Block → Block → List Var → Counters → List Line
+frame_code first rest vars counters =
+    let before = block_code first vars 0 counters in
+    before ++ (at 0 Mark ++ (block_code rest vars (length before + 1) counters ++ at 0 End))
+
+-- the code of a frame of a task that is not sliced
 abbrev pub whole_code : Block → List Var → List Line
-whole_code body vars = block_code body vars 0 (all_words vars) ++ (at 0 Mark ++ at 0 End)
+whole_code body vars = frame_code body done vars (counters_of body vars)

@@ -1,4 +1,4 @@
--- Which tasks have a valid image: expressions fit the stack, ports are there, and names differ.
+-- Which sets have a valid image: expressions fit the stack, ports are there, and names differ.
 use Rattle.std.specs.Prelude.{◌≡◌, ℕ, ◌+◌, ◌<◌, ◌≤◌, max, false, List, length, map}
 use Rattle.std.specs.Int.{IsInRange}
 use Rattle.std.specs.List.{AllByRecursion}
@@ -6,7 +6,9 @@ use Rattle.tcel_core.specs.Language.{Expr, number, variable, element, unary, bin
 use Rattle.tcel_core.specs.Scope.{Fits}
 use Rattle.tcel_target.specs.declared.costs.Costs.{Costs}
 use Rattle.tcel_image.specs.Validity.{IsValid, has_twice, own_names}
-use Rattle.tcel_code.specs.Layout.{image_of, image_task}
+use Rattle.tcel_cost.specs.Forms.{Form, whole_form}
+use Rattle.tcel_code.specs.Counters.{HaveTheirCounters}
+use Rattle.tcel_code.specs.Layout.{form_task, image_task, layout}
 
 -- how many values an expression's code has on the stack at most
 abbrev pub height : Expr → ℕ
@@ -36,14 +38,25 @@ abbrev mutual
   ActIsWithin (while_loop test turns body) inputs outputs = (height test ≤ 128) × IsWithin body inputs outputs
   ActIsWithin (copy a b) inputs outputs = Unit {0}
 
--- what a checked task has, so that its image is valid
-pub record IsCompilable (task : Task) : Type 0 where
-  pub fits : Fits task.body task.vars
-  pub within : IsWithin task.body (length task.inputs) (length task.outputs)
-  pub period : IsInRange 1 1000000000 task.period
-  pub names : has_twice (own_names (image_task task)) ≡ false
+-- what a form of a checked task has, so that its image is valid
+pub record IsCompilable (form : Form) : Type 0 where
+  pub first : Fits form.parts.first form.parts.vars
+  pub rest : Fits form.parts.rest form.parts.vars
+  pub first_within : IsWithin form.parts.first (length form.task.inputs) (length form.task.outputs)
+  pub rest_within : IsWithin form.parts.rest (length form.task.inputs) (length form.task.outputs)
+  pub first_counters : HaveTheirCounters form.task.body form.parts.first
+  pub rest_counters : HaveTheirCounters form.task.body form.parts.rest
+  pub period : IsInRange 1 1000000000 form.task.period
+  pub names : has_twice (own_names (form_task form)) ≡ false
 
--- the image of such tasks, whose names differ, is valid
-abbrev pub WholeImagesAreValid : Type 0
-WholeImagesAreValid =
-    (set : List Task) (costs : Costs) → has_twice (map (λ (task : Task). task.name) set) ≡ false → AllByRecursion IsCompilable set → IsValid (image_of set costs)
+-- the image of such forms, whose names differ, is valid
+abbrev pub ImagesAreValid : Type 0
+ImagesAreValid =
+    (forms : List Form) (costs : Costs) → has_twice (map (λ (form : Form). form.task.name) forms) ≡ false → AllByRecursion IsCompilable forms →
+    IsValid (layout forms costs)
+
+-- a task is such a form as a whole, where its body fits
+abbrev pub WholeTasksAreCompilable : Type 0
+WholeTasksAreCompilable =
+    (task : Task) → Fits task.body task.vars → IsWithin task.body (length task.inputs) (length task.outputs) → IsInRange 1 1000000000 task.period →
+    has_twice (own_names (image_task task)) ≡ false → IsCompilable (whole_form task)

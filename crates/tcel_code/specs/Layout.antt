@@ -1,5 +1,5 @@
--- The image of a set of which no task is sliced.
-use Rattle.std.specs.Prelude.{ℕ, ◌+◌, false, List, [], map, filter, unwrap_or}
+-- The image of a set.
+use Rattle.std.specs.Prelude.{ℕ, ◌+◌, List, [], map, filter, unwrap_or}
 use Rattle.tcel_core.specs.declared.var.Var.{Var}
 use Rattle.tcel_core.specs.declared.var.VarKind.{VarKind}
 use Rattle.tcel_core.specs.Cells.{all_words, words_of}
@@ -13,7 +13,9 @@ use Rattle.tcel_image.specs.declared.image.StateKind.{StateKind}
 use Rattle.tcel_image.specs.declared.image.StateKind.TheVariants as kinds
 use Rattle.tcel_core.specs.Contents.{loops}
 use Rattle.tcel_image.specs.Spelling.{spelling}
-use Rattle.tcel_code.specs.Code.{whole_code}
+use Rattle.tcel_cost.specs.Forms.{Form, whole_form}
+use Rattle.tcel_code.specs.Code.{frame_code}
+use Rattle.tcel_code.specs.Counters.{counters_of}
 
 -- how a variable is shown
 abbrev pub kind_of : VarKind → StateKind
@@ -29,23 +31,31 @@ state_of v = record { name = unwrap_or v.name []; kind = kind_of v.kind; words =
 abbrev pub states_of : List Var → List ImageState
 states_of vars = map state_of (filter (λ v. is_state v.keep) vars)
 
--- a task that is not sliced: its variables' words are its first cells, and the counters of its loops follow
-abbrev pub image_task : Task → ImageTask
-image_task task =
+-- a task in a form: its variables' words are its first cells, and the counters of its source's loops follow
+abbrev pub form_task : Form → ImageTask
+form_task form =
     record {
-      name = task.name;
-      period = task.period;
-      sliced = false;
-      inputs = task.inputs;
-      outputs = task.outputs;
-      states = states_of task.vars;
-      cells = all_words task.vars + loops task.body;
-      code = whole_code task.body task.vars;
+      name = form.task.name;
+      period = form.task.period;
+      sliced = form.sliced;
+      inputs = form.task.inputs;
+      outputs = form.task.outputs;
+      states = states_of form.task.vars;
+      cells = all_words form.parts.vars + loops form.task.body;
+      code = frame_code form.parts.first form.parts.rest form.parts.vars (counters_of form.task.body form.parts.vars);
     }
 
 -- the image of these tasks, in their order, for a processor with these costs
+abbrev pub layout : List Form → Costs → Image
+layout forms costs = record { costs = costs; tasks = map form_task forms }
+
+-- a task that is not sliced
+abbrev pub image_task : Task → ImageTask
+image_task task = form_task (whole_form task)
+
+-- the image of a set of which no task is sliced
 abbrev pub image_of : List Task → Costs → Image
-image_of set costs = record { costs = costs; tasks = map image_task set }
+image_of set costs = layout (map whole_form set) costs
 
 -- the bytes that the compiler writes for them
 abbrev pub written : List Task → Costs → List ℕ

@@ -1,5 +1,10 @@
 pub mod Code
 pub mod CodeCycles
 pub mod Compilable
+pub mod Counters
+pub mod Domination
+pub mod Examples
 pub mod Layout
+pub mod PartsFit
+pub mod Spellable
 pub mod Theorem

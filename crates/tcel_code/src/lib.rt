@@ -4,5 +4,10 @@
 mod examples;
 mod laws;
 
-pub use examples::window_examples;
-pub use laws::{expressions_cost_their_code, whole_images_are_valid, whole_sets_meet_their_source};
+pub use examples::{
+    counters_example, overrunning_example, pair_example, sliced_example, window_examples,
+};
+pub use laws::{
+    expressions_cost_their_code, images_are_in_range, images_are_valid, runs_keep_abreast,
+    sets_meet_their_source, slices_mean_their_body, whole_sets_meet_their_source,
+};

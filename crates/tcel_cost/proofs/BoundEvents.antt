@@ -1,6 +1,6 @@
 -- The points of a task's plan bind the events of each run of its body: what is so of each point's prefix and bound is so of each event's count and the bounds of the blocks around it.
-use Rattle.std.proofs.Common.{◌≡◌, ℕ, ◌+◌, ◌≤◌, true, false, List, [], ◌∷◌, ◌++◌, length, refl, sym, ap, ◌∙◌, subst, arith, Option, Some, None, inl, inr}
-use Rattle.std.specs.Prelude.{IfSome, MatchBool, min}
+use Rattle.std.proofs.Common.{◌≡◌, ℕ, suc, ◌+◌, ◌≤◌, true, false, List, [], ◌∷◌, ◌++◌, length, refl, sym, ap, ◌∙◌, subst, arith, Option, Some, None, inl, inr}
+use Rattle.std.specs.Prelude.{IfSome, MatchBool, min, slice_get}
 use Rattle.std.proofs.lemmas.Bool.{cases_Bool, cases_lt}
 use Rattle.tcel_num.specs.Plan.{Point, PointName, before, within}
 use Rattle.tcel_core.specs.declared.var.Var.{Var}
@@ -15,7 +15,7 @@ use Rattle.tcel_target.specs.declared.costs.Costs.{Costs}
 use Rattle.tcel_cost.specs.Hold.{hold_of}
 use Rattle.tcel_cost.specs.Expressions.{expr_cycles}
 use Rattle.tcel_cost.specs.Walks.{Counts, Walks, IsGreatest, IsLast, FirstAt, LastAt, IsFirstCount, IsLastCount, held_entry}
-use Rattle.tcel_cost.specs.WholePlan.{ArePoints, AreStmtPoints, AreBlockPoints, IsPointFor}
+use Rattle.tcel_cost.specs.Plans.{ArePoints, AreStmtPoints, AreBlockPoints, IsPointFor}
 use Rattle.tcel_cost.proofs.RunWalks.{RunWalks, StmtRunWalks, run_walk, stmt_run_walk, by_branch, stmt_counts}
 use Rattle.tcel_cost.specs.Steady.{AreInOrder, AreLater, IsSteady}
 use Rattle.tcel_cost.proofs.SteadyWalks.{AreUpTo, block_steady, stmt_steady, held_rises}
@@ -73,41 +73,31 @@ upto_by end (c ∷ cs) (d ∷ ds) h g = (let a = h.0 in let b = g.0 in omega ari
 
 -- ---- what is so of counts and bounds
 
-module _ (P : ℕ → ℕ → Type 0) where
+module _ (P : PointName → ℕ → ℕ → Type 0) where
   -- it holds of each point
   abbrev pub EachPoint : List Point → Type 0
   EachPoint [] = Unit {0}
-  EachPoint (p ∷ ps) = P p.prefix p.bound × EachPoint ps
+  EachPoint (p ∷ ps) = P p.name p.prefix p.bound × EachPoint ps
+
+  -- what is so of the point at each place is so of each point
+  pub each_point : (points : List Point) → ((k : ℕ) (point : Point) → slice_get points k ≡ Some point → P point.name point.prefix point.bound) → EachPoint points
+  each_point [] at = tt
+  each_point (p ∷ points) at = (at 0 p refl, each_point points (λ k point e. at (suc k) point e))
 
   each_split : (a b : List Point) → EachPoint (a ++ b) → EachPoint a × EachPoint b
   each_split [] b h = (tt, h)
   each_split (p ∷ a) b h = let rest = each_split a b h.1 in ((h.0, rest.0), rest.1)
 
-  -- it holds of a count and each bound of the blocks around an event
+  -- it holds of a count and each bound of the blocks around an event, by the names of their points
   abbrev pub IsBound : ℕ → List EnclosingBlock → Type 0
   IsBound count [] = Unit {0}
-  IsBound count (b ∷ bs) = IfSome b.window.within (P count) × IfSome (start_bound b) (P count) × IsBound count bs
+  IsBound count (b ∷ bs) = IfSome b.window.within (P (within b.number) count) × IfSome (start_bound b) (P (before b.number) count) × IsBound count bs
 
   -- so it does for these events, each with its count
   abbrev pub AreBound : List Occurrence → List ℕ → Type 0
   AreBound [] counts = Unit {0}
   AreBound (e ∷ es) [] = ⊥
   AreBound (e ∷ es) (c ∷ cs) = IsBound c e.around × AreBound es cs
-
-  lesser_bound : (count : ℕ) (bound : Option ℕ) (time : ℕ) → IfSome bound (P count) → P count time → P count (lesser bound time)
-  lesser_bound count None time h g = g
-  lesser_bound count (Some bound) time h g =
-      elim (cases_lt bound time) [
-        | inl less ↦ let e : bound ≡ min bound time = omega arith in subst (P count) e h
-        | inr most ↦ let e : time ≡ min bound time = omega arith in subst (P count) e g
-      ]
-
-  -- then it holds of an event's latest time, where it holds of the deadline
-  pub bound_latest : (count deadline : ℕ) (around : List EnclosingBlock) → P count deadline → IsBound count around → P count (latest deadline around)
-  bound_latest count deadline [] h bound = h
-  bound_latest count deadline (b ∷ bs) h bound =
-      lesser_bound count b.window.within (lesser (start_bound b) (latest deadline bs)) bound.0
-      (lesser_bound count (start_bound b) (latest deadline bs) bound.1 (bound_latest count deadline bs h bound.2))
 
   bound-append : (a b : List Occurrence) (cs ds : List ℕ) → length cs ≡ length a → AreBound a cs → AreBound b ds → AreBound (a ++ b) (cs ++ ds)
   bound-append [] b [] ds e h g = g
@@ -122,46 +112,46 @@ module _ (P : ℕ → ℕ → Type 0) where
 
   -- ---- the points of a block
 
-  abbrev EachIf : Option ℕ → List ℕ → Type 0
-  EachIf bound [] = Unit {0}
-  EachIf bound (c ∷ cs) = IfSome bound (P c) × EachIf bound cs
+  abbrev EachIf : PointName → Option ℕ → List ℕ → Type 0
+  EachIf name bound [] = Unit {0}
+  EachIf name bound (c ∷ cs) = IfSome bound (P name c) × EachIf name bound cs
 
-  abbrev FirstIf : Option ℕ → List ℕ → Type 0
-  FirstIf bound [] = Unit {0}
-  FirstIf bound (c ∷ cs) = IfSome bound (P c)
+  abbrev FirstIf : PointName → Option ℕ → List ℕ → Type 0
+  FirstIf name bound [] = Unit {0}
+  FirstIf name bound (c ∷ cs) = IfSome bound (P name c)
 
-  none_each : (counts : List ℕ) → EachIf None counts
-  none_each [] = tt
-  none_each (c ∷ cs) = (tt, none_each cs)
+  none_each : (name : PointName) (counts : List ℕ) → EachIf name None counts
+  none_each name [] = tt
+  none_each name (c ∷ cs) = (tt, none_each name cs)
 
   -- where it holds of each sooner count
-  module _ (sooner : (count later bound : ℕ) → count ≤ later → P later bound → P count bound) where
-    upto_each : (last bound : ℕ) (counts : List ℕ) → AreUpTo last counts → P last bound → EachIf (Some bound) counts
-    upto_each last bound [] h p = tt
-    upto_each last bound (c ∷ cs) h p = (sooner c last bound h.0 p, upto_each last bound cs h.1 p)
+  module _ (sooner : (name : PointName) (count later bound : ℕ) → count ≤ later → P name later bound → P name count bound) where
+    upto_each : (name : PointName) (last bound : ℕ) (counts : List ℕ) → AreUpTo last counts → P name last bound → EachIf name (Some bound) counts
+    upto_each name last bound [] h p = tt
+    upto_each name last bound (c ∷ cs) h p = (sooner name c last bound h.0 p, upto_each name last bound cs h.1 p)
 
     -- the point of a rule binds the counts up to its prefix
-    point_holds : (name : PointName) (prefix : Option ℕ → Type 0) (bound : ℕ) (points : List Point) → IsPointFor name prefix (Some bound) points → EachPoint points → (count : ℕ) × prefix (Some count) × P count bound
+    point_holds : (name : PointName) (prefix : Option ℕ → Type 0) (bound : ℕ) (points : List Point) → IsPointFor name prefix (Some bound) points → EachPoint points → (count : ℕ) × prefix (Some count) × P name count bound
     point_holds name prefix bound points is each = let own = subst EachPoint is.2 each in (is.0, is.1, own.0)
 
     module _ (walks : Counts) (steady : IsSteady walks) (inner from end : ℕ) (counts : List ℕ) (le : from ≤ inner) (walk : walks from end counts) where
-      within_binds : (name : PointName) (bound : Option ℕ) (points : List Point) → IsPointFor name (IsLastCount walks inner) bound points → EachPoint points → EachIf bound counts
-      within_binds name None points is each = none_each counts
+      within_binds : (name : PointName) (bound : Option ℕ) (points : List Point) → IsPointFor name (IsLastCount walks inner) bound points → EachPoint points → EachIf name bound counts
+      within_binds name None points is each = none_each name counts
       within_binds name (Some bound) points is each =
           let point = point_holds name (IsLastCount walks inner) bound points is each in
           let later = steady.delayed from end counts walk inner le in
           by later.moved later.to later.walk later.events_later point.0 point.1 point.2
         where
-          by : (moved : List ℕ) (to : ℕ) → walks inner to moved → AreLater counts moved → (count : ℕ) → IsGreatest (LastAt walks inner) count → P count bound → EachIf (Some bound) counts
-          by [] to w later count greatest p = upto_each count bound counts (upto_by count counts [] later tt) p
+          by : (moved : List ℕ) (to : ℕ) → walks inner to moved → AreLater counts moved → (count : ℕ) → IsGreatest (LastAt walks inner) count → P name count bound → EachIf name (Some bound) counts
+          by [] to w later count greatest p = upto_each name count bound counts (upto_by count counts [] later tt) p
           by (d ∷ ds) to w later count greatest p =
               let most = greatest.greatest (last_of d ds) (to, d ∷ ds, w, is_last d ds) in
-              upto_each (last_of d ds) bound counts (upto_by (last_of d ds) counts (d ∷ ds) later (upto_last d ds to (steady.ordered inner to (d ∷ ds) w).1)) (sooner (last_of d ds) count bound most p)
+              upto_each name (last_of d ds) bound counts (upto_by (last_of d ds) counts (d ∷ ds) later (upto_last d ds to (steady.ordered inner to (d ∷ ds) w).1)) (sooner name (last_of d ds) count bound most p)
 
-      start_binds : (name : PointName) (bound : Option ℕ) (points : List Point) → IsPointFor name (IsFirstCount walks inner) bound points → EachPoint points → FirstIf bound counts
+      start_binds : (name : PointName) (bound : Option ℕ) (points : List Point) → IsPointFor name (IsFirstCount walks inner) bound points → EachPoint points → FirstIf name bound counts
       start_binds name None points is each = none_first counts
         where
-          none_first : (cs : List ℕ) → FirstIf None cs
+          none_first : (cs : List ℕ) → FirstIf name None cs
           none_first [] = tt
           none_first (c ∷ cs) = tt
       start_binds name (Some bound) points is each =
@@ -169,22 +159,22 @@ module _ (P : ℕ → ℕ → Type 0) where
           let later = steady.delayed from end counts walk inner le in
           by counts later.moved later.to later.walk later.events_later point.0 point.1 point.2
         where
-          by : (cs moved : List ℕ) (to : ℕ) → walks inner to moved → AreLater cs moved → (count : ℕ) → IsGreatest (FirstAt walks inner) count → P count bound → FirstIf (Some bound) cs
+          by : (cs moved : List ℕ) (to : ℕ) → walks inner to moved → AreLater cs moved → (count : ℕ) → IsGreatest (FirstAt walks inner) count → P name count bound → FirstIf name (Some bound) cs
           by [] moved to w later count greatest p = tt
           by (c ∷ cs) [] to w later count greatest p = absurd later
           by (c ∷ cs) (d ∷ ds) to w later count greatest p =
               let most = greatest.greatest d (to, d ∷ ds, w, (ds, refl)) in
               let first = later.0 in
-              sooner c count bound (omega arith) p
+              sooner name c count bound (omega arith) p
 
     -- events that don't lead their block
-    others_bound : (id : ℕ) (window : Window) (events : List Occurrence) (counts : List ℕ) → AreBound events counts → EachIf window.within counts → AreBound (enclosed id window false events) counts
+    others_bound : (id : ℕ) (window : Window) (events : List Occurrence) (counts : List ℕ) → AreBound events counts → EachIf (within id) window.within counts → AreBound (enclosed id window false events) counts
     others_bound id window [] counts h each = tt
     others_bound id window (e ∷ events) [] h each = absurd h
     others_bound id window (e ∷ events) (c ∷ counts) h each = ((each.0, tt, h.0), others_bound id window events counts h.1 each.1)
 
     -- events of a block, the first of which leads it
-    enclosed_bound : (id : ℕ) (window : Window) (events : List Occurrence) (counts : List ℕ) → AreBound events counts → EachIf window.within counts → FirstIf window.before counts → AreBound (enclosed id window true events) counts
+    enclosed_bound : (id : ℕ) (window : Window) (events : List Occurrence) (counts : List ℕ) → AreBound events counts → EachIf (within id) window.within counts → FirstIf (before id) window.before counts → AreBound (enclosed id window true events) counts
     enclosed_bound id window [] counts h each first = tt
     enclosed_bound id window (e ∷ events) [] h each first = absurd h
     enclosed_bound id window (e ∷ events) (c ∷ counts) h each first = ((each.0, first, h.0), others_bound id window events counts h.1 each.1)
@@ -234,3 +224,21 @@ module _ (P : ℕ → ℕ → Type 0) where
                 (start_binds walks (block_steady body vars costs) inner begins end counts sooner_begins is_walk (before id) window.before own.0 own.2 own_split.0)
             | inr none ↦ subst (λ es. AreBound (enclosed id window true es) counts) (sym (block_quiet body vars fits none m)) tt
           ]
+
+-- ---- latest times
+
+module _ (P : ℕ → ℕ → Type 0) where
+  lesser_bound : (count : ℕ) (bound : Option ℕ) (time : ℕ) → IfSome bound (P count) → P count time → P count (lesser bound time)
+  lesser_bound count None time h g = g
+  lesser_bound count (Some bound) time h g =
+      elim (cases_lt bound time) [
+        | inl less ↦ let e : bound ≡ min bound time = omega arith in subst (P count) e h
+        | inr most ↦ let e : time ≡ min bound time = omega arith in subst (P count) e g
+      ]
+
+  -- then it holds of an event's latest time, where it holds of the deadline
+  pub bound_latest : (count deadline : ℕ) (around : List EnclosingBlock) → P count deadline → IsBound (λ name. P) count around → P count (latest deadline around)
+  bound_latest count deadline [] h bound = h
+  bound_latest count deadline (b ∷ bs) h bound =
+      lesser_bound count b.window.within (lesser (start_bound b) (latest deadline bs)) bound.0
+      (lesser_bound count (start_bound b) (latest deadline bs) bound.1 (bound_latest count deadline bs h bound.2))

@@ -3,8 +3,10 @@ use Rattle.std.proofs.Common.{◌≡◌, ℕ, ◌+◌, List, [], ◌∷◌, ◌+
 use Rattle.tcel_num.specs.Plan.{Point, before, within}
 use Rattle.tcel_target.specs.Costs.{unit_costs}
 use Rattle.tcel_cost.specs.Examples.{passing_body, windowed_task, windowed_plan}
-use Rattle.tcel_cost.specs.Walks.{Counts, Walks, Shows, IsTotal, IsFirst, IsFirstCount, IsLastCount}
-use Rattle.tcel_cost.specs.WholePlan.{AreWholePlans, AreBlockPoints, IsWholePlan}
+use Rattle.tcel_cost.specs.Walks.{Counts, Walks, IsTotal, IsFirst, IsFirstCount, IsLastCount}
+use Rattle.tcel_cost.specs.Plans.{AreBlockPoints}
+use Rattle.tcel_cost.specs.WholePlan.{AreWholePlans, IsWholePlan}
+use Rattle.tcel_cost.proofs.Totals.{passes_total, shows_total}
 
 -- ---- its walks
 
@@ -69,9 +71,6 @@ last_at = record {
 
 -- ---- its plan
 
-one_show : (cycles entry : ℕ) → IsTotal (Shows cycles) entry (entry + cycles)
-one_show cycles entry = record { there = ((entry + cycles) ∷ [], (refl, refl)); greatest = λ n h. let e = h.1.0 in omega arith }
-
 block_total : IsTotal passing 3 6
 block_total = record { there = (4 ∷ 6 ∷ [], there 3); greatest = λ n h. let walk = passed 3 n h.0 h.1 in let e = walk.ends in omega arith }
 
@@ -93,11 +92,13 @@ block_points = (starts ∷ [], finishes ∷ [], (4, first_at, refl), (6, last_at
 whole : IsWholePlan windowed_task unit_costs windowed_plan
 whole = record {
   period = refl;
-  end = 6;
-  longest = body_total;
+  first = 6;
+  first_total = body_total;
+  rest = 0;
+  rest_total = passes_total 0 0;
   total = refl;
   windows = starts ∷ finishes ∷ [];
-  in_text = (starts ∷ finishes ∷ [], 6, [], (starts ∷ finishes ∷ [], [], block_points, ([], 4, [], refl, one_show 1 3, ([], 6, [], refl, one_show 2 4, refl, refl), refl), refl), block_total, refl, refl);
+  in_text = (starts ∷ finishes ∷ [], 6, [], (starts ∷ finishes ∷ [], [], block_points, ([], 4, [], refl, shows_total 1 3, ([], 6, [], refl, shows_total 2 4, refl, refl), refl), refl), block_total, refl, refl);
   points = refl;
 }
 

@@ -1,12 +1,14 @@
 -- Worked examples.
-use Rattle.std.specs.Prelude.{pos, List, [], ◌∷◌, Some, codes}
+use Rattle.std.specs.Prelude.{pos, true, List, [], ◌∷◌, Some, codes}
 use Rattle.tcel_num.specs.declared.op.Op.TheVariants as ops
 use Rattle.tcel_num.specs.Plan.{Plan, frame, before, within}
 use Rattle.tcel_core.specs.declared.var.Var.{Var}
 use Rattle.tcel_core.specs.declared.var.VarKind.{VarKind}
 use Rattle.tcel_core.specs.declared.var.Keep.{Keep}
+use Rattle.tcel_core.specs.Examples.{counter, counter_vars, int_var, one, plus}
 use Rattle.tcel_core.specs.Language.{number, variable, binary, Block, done, next, item, choice, timed, assign, receive, send, Task}
 use Rattle.tcel_target.specs.declared.costs.Costs.{Costs}
+use Rattle.tcel_cost.specs.Forms.{Form, whole_form}
 
 -- a processor where each cost is another
 abbrev pub many_costs : Costs
@@ -56,7 +58,7 @@ abbrev pub windowed_task : Task
 windowed_task =
     record {
       name = codes "t";
-      priority = 1;
+      priority = 2;
       period = 10;
       deadline = 9;
       vars = record { name = Some (codes "x"); kind = VarKind.Int; keep = Keep.Local; first = pos 0 } ∷ [];
@@ -75,3 +77,110 @@ windowed_plan =
           record { prefix = 7; bound = 9; name = frame } ∷ record { prefix = 4; bound = 5; name = before 1 }
           ∷ record { prefix = 6; bound = 6; name = within 1 } ∷ [];
     }
+
+-- ---- two tasks, of which the higher waits in a block
+
+-- send n to o; each 20 ticks, with n = 7
+abbrev pub telling_task : Task
+telling_task =
+    record {
+      name = codes "u";
+      priority = 1;
+      period = 20;
+      deadline = 20;
+      vars = record { name = Some (codes "n"); kind = VarKind.Int; keep = Keep.State; first = pos 7 } ∷ [];
+      inputs = [];
+      outputs = codes "o" ∷ [];
+      body = next (item 0 (send (variable 0) 0)) done;
+    }
+
+abbrev pub telling_plan : Plan
+telling_plan = record { period = 20; total = 4; points = record { prefix = 3; bound = 20; name = frame } ∷ [] }
+
+abbrev pub pair : List Task
+pair = windowed_task ∷ telling_task ∷ []
+
+-- together they use every tick
+abbrev pub pair_plans : List Plan
+pair_plans = windowed_plan ∷ telling_plan ∷ []
+
+-- ---- a task that is sliced
+
+-- receive x from s; send x to o; each 10 ticks, within 4; and behind it n := n + 1;
+abbrev pub sliced_counter : Form
+sliced_counter =
+    record {
+      task = record counter { deadline = 4 };
+      sliced = true;
+      parts =
+          record {
+            first = next (item 0 (receive 1 0)) (next (item 1 (send (variable 1) 0)) done);
+            rest = next (item 2 (assign 0 (plus 0 one))) done;
+            vars = counter_vars;
+            words = 2;
+          };
+    }
+
+-- its events are behind it at 3, and the rest takes 4 cycles
+abbrev pub sliced_counter_plan : Plan
+sliced_counter_plan = record { period = 10; total = 9; points = record { prefix = 4; bound = 4; name = frame } ∷ [] }
+
+-- ---- a rest that runs past its period
+
+-- send 1 to o; each 30 ticks
+abbrev pub rare_task : Task
+rare_task =
+    record {
+      name = codes "hi";
+      priority = 2;
+      period = 30;
+      deadline = 30;
+      vars = [];
+      inputs = [];
+      outputs = codes "o" ∷ [];
+      body = next (item 0 (send one 0)) done;
+    }
+
+-- receive x from s; y := x; each 6 ticks
+abbrev pub often_task : Task
+often_task =
+    record {
+      name = codes "lo";
+      priority = 1;
+      period = 6;
+      deadline = 6;
+      vars = int_var (codes "y") Keep.State ∷ int_var (codes "x") Keep.Local ∷ [];
+      inputs = codes "s" ∷ [];
+      outputs = [];
+      body = next (item 0 (receive 1 0)) (next (item 1 (assign 0 (variable 1))) done);
+    }
+
+-- with its assignment left for the rest
+abbrev pub sliced_often : Form
+sliced_often =
+    record {
+      task = often_task;
+      sliced = true;
+      parts =
+          record {
+            first = next (item 0 (receive 1 0)) done;
+            rest = next (item 1 (assign 0 (variable 1))) done;
+            vars = often_task.vars;
+            words = 2;
+          };
+    }
+
+abbrev pub overrunning : List Form
+overrunning = whole_form rare_task ∷ sliced_often ∷ []
+
+-- the higher task's frame, and the lower one's mark behind its receive
+abbrev pub overrunning_plans : List Plan
+overrunning_plans =
+    record { period = 30; total = 4; points = record { prefix = 3; bound = 30; name = frame } ∷ [] }
+    ∷ record { period = 6; total = 5; points = record { prefix = 2; bound = 6; name = frame } ∷ [] } ∷ []
+
+-- the same tasks as a whole, where the lower one's mark is behind its assignment
+abbrev pub late_plans : List Plan
+late_plans =
+    record { period = 30; total = 4; points = record { prefix = 3; bound = 30; name = frame } ∷ [] }
+    ∷ record { period = 6; total = 5; points = record { prefix = 4; bound = 6; name = frame } ∷ [] } ∷ []

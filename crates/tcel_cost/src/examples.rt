@@ -1,7 +1,8 @@
 ghost use Rattle.std.specs.Prelude.{[], ◌∷◌, None, Some};
 ghost use Rattle.tcel_core.specs.Examples.{for_body, while_body, loop_vars};
 ghost use Rattle.tcel_target.specs.Costs.{unit_costs};
-ghost use Rattle.tcel_cost.specs.Examples.{branching_body, branching_vars, many_costs, windowed_plan, windowed_task};
+ghost use Rattle.tcel_cost.specs.Examples.{branching_body, branching_vars, late_plans, many_costs, often_task, overrunning, overrunning_plans, pair, pair_plans, rare_task, sliced_counter, sliced_counter_plan, windowed_plan, windowed_task};
+ghost use Rattle.tcel_cost.specs.Plans.{ArePlans};
 ghost use Rattle.tcel_cost.specs.Walks.{IsFirstCount, IsQuietCount, IsTotal, Walks};
 ghost use Rattle.tcel_cost.specs.WholePlan.{AreWholePlans};
 
@@ -16,7 +17,11 @@ pub fn cost_examples()
     ensures while_total { IsTotal (Walks (while_body 5) loop_vars many_costs) 15 224 }
 {}
 
-/// The plan of a task with a `do` block (docs/analysis.md).
-pub fn plan_example()
-    ensures plan { AreWholePlans (windowed_task ∷ []) unit_costs (windowed_plan ∷ []) }
+/// The plan of a task with a `do` block, and the plans of sets, whole and sliced (docs/analysis.md).
+pub fn plan_examples()
+    ensures windowed { AreWholePlans (windowed_task ∷ []) unit_costs (windowed_plan ∷ []) }
+    ensures pair { AreWholePlans pair unit_costs pair_plans }
+    ensures sliced { ArePlans (sliced_counter ∷ []) unit_costs (sliced_counter_plan ∷ []) }
+    ensures overrunning { ArePlans overrunning unit_costs overrunning_plans }
+    ensures late { AreWholePlans (rare_task ∷ often_task ∷ []) unit_costs late_plans }
 {}

@@ -4,5 +4,5 @@
 mod examples;
 mod laws;
 
-pub use examples::{cost_examples, plan_example};
+pub use examples::{cost_examples, plan_examples};
 pub use laws::walks_are_steady;

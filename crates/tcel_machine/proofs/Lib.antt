@@ -4,3 +4,4 @@ pub mod Cycles
 pub mod Ready
 pub mod Running
 pub mod Sound
+pub mod Defaults

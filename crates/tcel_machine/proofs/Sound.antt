@@ -77,19 +77,22 @@ none_given [] port = refl
 none_given (x ∷ inputs) zero = refl
 none_given (x ∷ inputs) (suc port) = none_given inputs port
 
-pub starts : (task : ImageTask) (run : Task) → TaskInRange task → IsTaskValid task → run.words ≡ state_words task.states → running_of run ≡ start_task task → IsRunning task 0 run
-starts task run range valid words e =
+-- a task starts at the first line of its code
+pub start_shape : (task : ImageTask) → TaskInRange task → IsTaskValid task → HasShape task (start_task task)
+start_shape task range valid =
     let code = start_at task valid (omega (arith, range.code.count.0)) in
-    let shape : HasShape task (start_task task) =
     record {
       place = code.within;
       depth = λ line is. sym (code.deep line is);
       low = omega arith;
       cells = simp (length-append, length-replicate) (omega (arith, length-words task range, range.cells.0));
       taken = length-map task.inputs (λ _. 0);
-    } in
+    }
+
+pub starts : (task : ImageTask) (run : Task) → TaskInRange task → IsTaskValid task → run.words ≡ state_words task.states → running_of run ≡ start_task task → IsRunning task 0 run
+starts task run range valid words e =
     let counts : HasCounts task 0 (start_task task) = record { spent = omega arith; reach = omega arith; given = λ port. omega (arith, none_given task.inputs port) } in
-    let now : HasShape task (running_of run) = subst (HasShape task) (sym e) shape in
+    let now : HasShape task (running_of run) = subst (HasShape task) (sym e) (start_shape task range valid) in
     record { words = words; fits = omega (arith, words, now.cells, range.cells.0); shape = now; counts = subst (HasCounts task 0) (sym e) counts }
 
 pub push_get : {X : Type 0} (xs : List X) (k : ℕ) (x y : X) → slice_get (xs ++ x ∷ []) k ≡ Some y → ((k ≡ length xs) × (x ≡ y)) ⊎ (slice_get xs k ≡ Some y)

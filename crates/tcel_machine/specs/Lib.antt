@@ -5,3 +5,4 @@ pub mod Stack
 pub mod Task
 pub mod Tick
 pub mod Standing
+pub mod Defaults

@@ -5,6 +5,7 @@ mod cells;
 mod cycle;
 mod entry;
 mod execute;
+mod laws;
 mod machine;
 mod operator;
 mod stack;
@@ -13,6 +14,7 @@ mod step;
 mod task;
 
 pub use entry::{Entry, What};
+pub use laws::no_step_takes_a_default;
 pub use machine::Machine;
 
 #[cfg(test)]

@@ -1,20 +1,19 @@
 -- The image of a plain program that can be written is in the ranges of its fields.
 use Rattle.std.proofs.Common.{◌≡◌, ℕ, ◌+◌, ◌*◌, ◌≤◌, pos, List, [], ◌∷◌, ◌++◌, length, length-append, map, All, refl, sym, subst, arith}
-use Rattle.std.specs.Prelude.{Contains, FitsSigned, filter}
+use Rattle.std.specs.Prelude.{FitsSigned, filter}
 use Rattle.std.specs.Int.{w64}
-use Rattle.std.specs.List.{AllByRecursion, flat_map}
+use Rattle.std.specs.List.{flat_map}
 use Rattle.std.proofs.lemmas.List.{length-map}
-use Rattle.std.proofs.lemmas.List.Elements.{All-append, All-cons, All-filter, All-head, All-map, All-nil, All-tail, All-weaker}
+use Rattle.std.proofs.lemmas.List.Elements.{All-cons, All-filter, All-head, All-map, All-nil, All-tail, All-weaker}
 use Rattle.std.proofs.lemmas.List.Sums.{sum_by-cons}
 use Rattle.tcel_num.specs.Name.{IsName}
 use Rattle.tcel_core.specs.declared.var.Keep.{Keep}
-use Rattle.tcel_core.specs.Cells.{all_words, place}
+use Rattle.tcel_core.specs.Cells.{place}
 use Rattle.tcel_target.specs.Costs.{CostsInRange}
 use Rattle.tcel_target.specs.declared.costs.Costs.{Costs}
-use Rattle.tcel_image.specs.Spelling.{IsWord, InstrInRange, LineInRange, NamesInRange, StateInRange, StatesInRange, CodeInRange, TaskInRange, InRange, state_words}
+use Rattle.tcel_image.specs.Spelling.{NamesInRange, StateInRange, StatesInRange, InRange, state_words}
 use Rattle.tcel_image.specs.declared.image.ImageState.{ImageState}
-use Rattle.tcel_image.specs.declared.image.Instr.{Instr}
-use Rattle.tcel_image.specs.declared.image.Instr.TheVariants.{Const, Get, Put, Arith, Receive, Send, Mark, End}
+use Rattle.tcel_image.specs.declared.image.Instr.TheVariants.{Put, Arith, Send, Mark, End}
 use Rattle.tcel_image.specs.declared.image.Line.{Line}
 use Rattle.tcel_tool.specs.declared.plain_tree.PlainTree.{PlainTree}
 use Rattle.tcel_tool.specs.declared.plain_tree.PlainDecl.{PlainDecl}
@@ -27,9 +26,14 @@ use Rattle.tcel_tool.specs.declared.plain_tree.PlainExpr.TheVariants as exprs
 use Rattle.tcel_tool.specs.declared.plain_tree.Operand.{Operand}
 use Rattle.tcel_tool.specs.declared.plain_tree.Operand.TheVariants as operands
 use Rattle.tcel_code.specs.Code.{at, expr_code, whole_code}
-use Rattle.tcel_code.specs.Layout.{image_of, image_task, state_of}
-use Rattle.tcel_tool.specs.PlainTree.{IsPlain, IsWritable, StmtIsPlain, StmtIsWritable, ExprIsPlain, ExprIsWritable, OperandIsPlain, OperandIsWritable, block_from, expr_of, index_of, is_kind, names_of, operand_of, set_of, task_of, var_of, variable_names, vars_of}
-use Rattle.tcel_tool.proofs.Places.{all_words-vars, below, names_of-most, place-vars, variables-length}
+use Rattle.tcel_code.specs.Counters.{counters_of}
+use Rattle.tcel_cost.specs.Forms.{whole_form}
+use Rattle.tcel_code.specs.Spellable.{ActNumbersFit, ExprFits, IsSpellable, NumbersFit}
+use Rattle.tcel_code.proofs.SpelledImages.{images_in_range}
+use Rattle.tcel_tool.proofs.PlainValid.{plain_compilable}
+use Rattle.tcel_code.specs.Layout.{image_of, state_of}
+use Rattle.tcel_tool.specs.PlainTree.{IsPlain, IsWritable, StmtIsWritable, ExprIsWritable, OperandIsWritable, act_of, block_from, expr_of, index_of, is_kind, names_of, operand_of, set_of, task_of, var_of, variable_names, vars_of}
+use Rattle.tcel_tool.proofs.Places.{all_words-vars, names_of-most, variables-length}
 use Rattle.tcel_tool.proofs.Straight.{block_code-straight, lines_of, loops_none, states_of_vars}
 
 -- ---- names and states
@@ -70,89 +74,64 @@ states_in_range names h =
 
 -- ---- code
 
--- so many lines at most, which are in range
-record AreLines (most : ℕ) (lines : List Line) : Type 0 where
-  few : length lines ≤ most
-  each : All LineInRange lines
+module _ (decls : List PlainDecl) where
+  operand_fits : (a : Operand) → OperandIsWritable a → ExprFits (operand_of decls a) (vars_of decls)
+  operand_fits (operands.Number n) fits = fits
+  operand_fits (operands.Var name) fits = tt
 
-one_line : (depth : ℕ) (instr : Instr) → depth ≤ 2 → InstrInRange instr → AreLines 1 (at depth instr)
-one_line depth instr low is =
-    record {
-      few = omega arith;
-      each = All-cons LineInRange (record { instr = instr; depth = depth }) [] (record { depth = omega arith; instr = is }) (All-nil LineInRange);
-    }
+  expr_fits : (e : PlainExpr) → ExprIsWritable e → ExprFits (expr_of decls e) (vars_of decls)
+  expr_fits (exprs.One a) fits = operand_fits a fits
+  expr_fits (exprs.Two op a b) fits = (operand_fits a fits.0, operand_fits b fits.1)
 
-both : (m n : ℕ) (xs ys : List Line) → AreLines m xs → AreLines n ys → AreLines (m + n) (xs ++ ys)
-both m n xs ys a b = record { few = omega (arith, length-append xs ys, a.few, b.few); each = All-append LineInRange xs ys a.each b.each }
+  act_fits : (s : PlainStmt) → StmtIsWritable s → ActNumbersFit (act_of decls s) (vars_of decls)
+  act_fits (stmts.Assign name e) fits = expr_fits e fits.1
+  act_fits (stmts.Receive name port) fits = tt
+  act_fits (stmts.Send e port) fits = expr_fits e fits.0
 
-more : (m n : ℕ) (xs : List Line) → AreLines m xs → m ≤ n → AreLines n xs
-more m n xs a le = record { few = omega (arith, a.few); each = a.each }
+  body_fits : (body : List PlainStmt) (id : ℕ) → All StmtIsWritable body → NumbersFit (block_from id decls body) (vars_of decls)
+  body_fits [] id fits = tt
+  body_fits (s ∷ ss) id fits = (act_fits s (All-head StmtIsWritable s ss fits), body_fits ss (id + 1) (All-tail StmtIsWritable s ss fits))
 
-module _ (decls : List PlainDecl) (few : length decls ≤ 256) where
-  cell_in_range : (name : List ℕ) → Contains (variable_names decls) name → IsWord (place (vars_of decls) (index_of name (variable_names decls)))
-  cell_in_range name has =
-      let within = below name (variable_names decls) has in
-      let at_most = variables-length decls in
-      let states = names_of-most kinds.State decls in
-      let locals = names_of-most kinds.Local decls in
-      let is = place-vars decls (index_of name (variable_names decls)) (omega arith) in
-      omega arith
+  -- a statement has 4 lines at most
+  operand_line : (a : Operand) (depth : ℕ) → length (expr_code (operand_of decls a) (vars_of decls) depth) ≡ 1
+  operand_line (operands.Number n) depth = refl
+  operand_line (operands.Var name) depth = refl
 
-  port_in_range : (kind : PlainKind) (name : List ℕ) → Contains (names_of kind decls) name → IsWord (index_of name (names_of kind decls))
-  port_in_range kind name has = omega (arith, few, below name (names_of kind decls) has, names_of-most kind decls)
+  expr_lines : (e : PlainExpr) → length (expr_code (expr_of decls e) (vars_of decls) 0) ≤ 3
+  expr_lines (exprs.One a) = omega (arith, operand_line a 0)
+  expr_lines (exprs.Two op a b) =
+      let second = expr_code (operand_of decls b) (vars_of decls) 1 in
+      omega (
+        arith,
+        operand_line a 0,
+        operand_line b 1,
+        length-append (expr_code (operand_of decls a) (vars_of decls) 0) (second ++ at 2 (Arith op)),
+        length-append second (at 2 (Arith op)),
+      )
 
-  operand_in_range : (a : Operand) (depth : ℕ) → depth ≤ 2 → OperandIsPlain decls a → OperandIsWritable a → AreLines 1 (expr_code (operand_of decls a) (vars_of decls) depth)
-  operand_in_range (operands.Number n) depth low plain fits = one_line depth (Const n) low fits
-  operand_in_range (operands.Var name) depth low plain fits = one_line depth (Get (place (vars_of decls) (index_of name (variable_names decls)))) low (cell_in_range name plain)
+  stmt_lines : (s : PlainStmt) → length (lines_of decls s) ≤ 4
+  stmt_lines (stmts.Assign name e) =
+      let put = at 1 (Put (place (vars_of decls) (index_of name (variable_names decls)))) in omega (arith, expr_lines e, length-append (expr_code (expr_of decls e) (vars_of decls) 0) put)
+  stmt_lines (stmts.Receive name port) = omega arith
+  stmt_lines (stmts.Send e port) =
+      let out = at 1 (Send (index_of port (names_of kinds.Output decls))) in omega (arith, expr_lines e, length-append (expr_code (expr_of decls e) (vars_of decls) 0) out)
 
-  expr_in_range : (e : PlainExpr) → ExprIsPlain decls e → ExprIsWritable e → AreLines 3 (expr_code (expr_of decls e) (vars_of decls) 0)
-  expr_in_range (exprs.One a) plain fits = more 1 3 (expr_code (operand_of decls a) (vars_of decls) 0) (operand_in_range a 0 (omega arith) plain fits) (omega arith)
-  expr_in_range (exprs.Two op a b) plain fits =
-      let left = expr_code (operand_of decls a) (vars_of decls) 0 in
-      let right = expr_code (operand_of decls b) (vars_of decls) 1 in
-      both 1 2 left (right ++ at 2 (Arith op)) (operand_in_range a 0 (omega arith) plain.1 fits.0)
-      (both 1 1 right (at 2 (Arith op)) (operand_in_range b 1 (omega arith) plain.2 fits.1) (one_line 2 (Arith op) (omega arith) tt))
+  body_lines : (body : List PlainStmt) → length (flat_map (lines_of decls) body) ≤ 4 * length body
+  body_lines [] = omega arith
+  body_lines (s ∷ ss) = omega (arith, stmt_lines s, body_lines ss, length-append (lines_of decls s) (flat_map (lines_of decls) ss))
 
-  stmt_in_range : (s : PlainStmt) → StmtIsPlain decls s → StmtIsWritable s → AreLines 4 (lines_of decls s)
-  stmt_in_range (stmts.Assign name e) plain fits =
-      let cell = place (vars_of decls) (index_of name (variable_names decls)) in
-      both 3 1 (expr_code (expr_of decls e) (vars_of decls) 0) (at 1 (Put cell)) (expr_in_range e plain.1 fits.1)
-      (one_line 1 (Put cell) (omega arith) (cell_in_range name plain.0))
-  stmt_in_range (stmts.Receive name port) plain fits =
-      let cell = place (vars_of decls) (index_of name (variable_names decls)) in
-      let input = index_of port (names_of kinds.Input decls) in
-      more 1 4 (at 0 (Receive input cell))
-      (one_line 0 (Receive input cell) (omega arith) (port_in_range kinds.Input port plain.1, cell_in_range name plain.0)) (omega arith)
-  stmt_in_range (stmts.Send e port) plain fits =
-      let output = index_of port (names_of kinds.Output decls) in
-      both 3 1 (expr_code (expr_of decls e) (vars_of decls) 0) (at 1 (Send output)) (expr_in_range e plain.0 fits.0)
-      (one_line 1 (Send output) (omega arith) (port_in_range kinds.Output port plain.1))
-
-  body_in_range : (body : List PlainStmt) → AllByRecursion (StmtIsPlain decls) body → All StmtIsWritable body → AreLines (4 * length body) (flat_map (lines_of decls) body)
-  body_in_range [] plain fits = record { few = omega arith; each = All-nil LineInRange }
-  body_in_range (s ∷ ss) plain fits =
-      more (4 + 4 * length ss) (4 * length (s ∷ ss)) (lines_of decls s ++ flat_map (lines_of decls) ss)
-      (both 4 (4 * length ss) (lines_of decls s) (flat_map (lines_of decls) ss) (stmt_in_range s plain.0 (All-head StmtIsWritable s ss fits))
-      (body_in_range ss plain.1 (All-tail StmtIsWritable s ss fits)))
-      (omega arith)
-
-  code_in_range : (body : List PlainStmt) → length body ≤ 1000 → AllByRecursion (StmtIsPlain decls) body → All StmtIsWritable body → CodeInRange (whole_code (block_from 0 decls body) (vars_of decls))
-  code_in_range body short plain fits =
+  code_lines : (body : List PlainStmt) → length body ≤ 1000 → length (whole_code (block_from 0 decls body) (vars_of decls)) ≤ 65536
+  code_lines body short =
       let straight = flat_map (lines_of decls) body in
-      let is = block_code-straight decls body 0 0 (all_words (vars_of decls)) in
-      let ends = both 1 1 (at 0 Mark) (at 0 End) (one_line 0 Mark (omega arith) tt) (one_line 0 End (omega arith) tt) in
-      let lines = both (4 * length body) 2 straight (at 0 Mark ++ at 0 End) (body_in_range body plain fits) ends in
-      subst (λ (code : List Line). CodeInRange (code ++ (at 0 Mark ++ at 0 End))) (sym is)
-      (record { count = (omega (arith, length-append straight (at 0 Mark ++ at 0 End)), omega (arith, lines.few)); each = lines.each })
+      let is = block_code-straight decls body 0 0 (counters_of (block_from 0 decls body) (vars_of decls)) in
+      subst (λ (code : List Line). length (code ++ (at 0 Mark ++ at 0 End)) ≤ 65536) (sym is) (omega (arith, length-append straight (at 0 Mark ++ at 0 End), body_lines body))
 
 -- ---- the whole
 
-task_in_range : (tree : PlainTree) → IsPlain tree → IsWritable tree → TaskInRange (image_task (task_of tree))
-task_in_range tree plain writable =
+plain_spellable : (tree : PlainTree) → IsPlain tree → IsWritable tree → IsSpellable (whole_form (task_of tree))
+plain_spellable tree plain writable =
     let few = plain.few_names in
     let states = names_of kinds.State tree.decls in
-    let is = states_of_vars tree.decls in
-    let words = subst (λ (ss : List ImageState). state_words ss ≡ length states) (sym is) (words_of_states states) in
     let cells = all_words-vars tree.decls in
     let variables = variables-length tree.decls in
     let loops = loops_none tree.decls tree.body 0 in
@@ -160,18 +139,16 @@ task_in_range tree plain writable =
     let most_locals = names_of-most kinds.Local tree.decls in
     record {
       name = writable.named;
-      period = omega (arith, plain.period.1);
       inputs = names_in_range kinds.Input tree.decls few writable.declared;
       outputs = names_in_range kinds.Output tree.decls few writable.declared;
-      states = subst StatesInRange (sym is) (states_in_range states (names_in_range kinds.State tree.decls few writable.declared));
-      cells = (omega arith, omega arith);
-      code = code_in_range tree.decls few tree.body plain.few_statements plain.statements writable.statements;
+      states = subst StatesInRange (sym (states_of_vars tree.decls)) (states_in_range states (names_in_range kinds.State tree.decls few writable.declared));
+      words = refl;
+      cells = omega arith;
+      lines = code_lines tree.decls tree.body plain.few_statements;
+      first = body_fits tree.decls tree.body 0 writable.statements;
+      rest = tt;
     }
 
 pub image_in_range : (tree : PlainTree) (costs : Costs) → IsPlain tree → IsWritable tree → CostsInRange costs → InRange (image_of (set_of tree) costs)
 image_in_range tree costs plain writable range =
-    record {
-      costs = range;
-      count = (omega arith, omega arith);
-      tasks = All-cons TaskInRange (image_task (task_of tree)) [] (task_in_range tree plain writable) (All-nil TaskInRange);
-    }
+    images_in_range (whole_form (task_of tree) ∷ []) costs range (omega arith, omega arith) (plain_compilable tree plain, tt) (plain_spellable tree plain writable, tt)

@@ -116,7 +116,7 @@ plain_fits tree plain =
 
 module _ (tree : PlainTree) (costs : Costs) (plan : Plan) (whole : IsWholePlan (task_of tree) costs plan) (positive : 0 < plan.period) (fits : plan.total ≤ plan.period) where
   abbrev mark : Point
-  mark = record { prefix = whole.end + costs.mark; bound = tree.period; name = frame }
+  mark = record { prefix = whole.first + costs.mark; bound = tree.period; name = frame }
 
   -- the frame's point is the only one
   one_point : plan.points ≡ mark ∷ []

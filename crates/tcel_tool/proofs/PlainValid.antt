@@ -23,11 +23,12 @@ use Rattle.tcel_tool.specs.declared.plain_tree.Operand.{Operand}
 use Rattle.tcel_tool.specs.declared.plain_tree.Operand.TheVariants as operands
 use Rattle.tcel_code.specs.Layout.{image_of, image_task, state_of}
 use Rattle.tcel_tool.specs.PlainTree.{AreDistinct, IsPlain, StmtIsPlain, act_of, block_from, expr_of, is_kind, names_of, operand_of, set_of, task_of, var_of}
+use Rattle.tcel_cost.specs.Forms.{whole_form}
 use Rattle.tcel_code.specs.Compilable.{ActIsWithin, IsCompilable, IsWithin, height}
 use Rattle.tcel_tool.proofs.Places.{below}
 use Rattle.tcel_tool.proofs.PlainMeets.{block_fits}
 use Rattle.tcel_tool.proofs.Straight.{states_of_vars}
-use Rattle.tcel_code.proofs.ValidImages.{whole_images_valid}
+use Rattle.tcel_code.proofs.ValidImages.{images_valid, whole_compilable}
 
 -- ---- expressions are low, and ports are there
 
@@ -110,14 +111,12 @@ own_once tree plain =
 
 -- ---- the whole
 
+-- a plain task is one whose image is valid
+pub plain_compilable : (tree : PlainTree) → IsPlain tree → IsCompilable (whole_form (task_of tree))
+plain_compilable tree plain =
+    let period = plain.period in
+    whole_compilable (task_of tree) (block_fits 0 tree.decls tree.body plain.statements) (block_within 0 tree.decls tree.body plain.statements) (period.0, omega arith) (own_once tree plain)
+
 -- the image of a plain program has no flaw
 pub plain_image_valid : (tree : PlainTree) (costs : Costs) → IsPlain tree → IsValid (image_of (set_of tree) costs)
-plain_image_valid tree costs plain =
-    let task : IsCompilable (task_of tree) =
-    record {
-      fits = block_fits 0 tree.decls tree.body plain.statements;
-      within = block_within 0 tree.decls tree.body plain.statements;
-      period = let range = plain.period in (range.0, omega arith);
-      names = own_once tree plain;
-    } in
-    whole_images_valid (set_of tree) costs refl (task, tt)
+plain_image_valid tree costs plain = images_valid (whole_form (task_of tree) ∷ []) costs refl (plain_compilable tree plain, tt)

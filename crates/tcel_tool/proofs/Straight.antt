@@ -17,6 +17,7 @@ use Rattle.tcel_image.specs.declared.image.ImageTask.{ImageTask}
 use Rattle.tcel_image.specs.declared.image.Instr.TheVariants.{Mark, End}
 use Rattle.tcel_core.specs.Cells.{all_words}
 use Rattle.tcel_tool.specs.declared.plain_tree.PlainTree.{PlainTree}
+use Rattle.tcel_code.specs.Counters.{Counters, counter_of, counters_of}
 use Rattle.tcel_code.specs.Code.{at, act_code, block_code, whole_code}
 use Rattle.tcel_core.specs.Contents.{act_loops, loops}
 use Rattle.tcel_code.specs.Layout.{image_of, image_task, state_of, states_of}
@@ -32,11 +33,11 @@ anywhere decls (stmts.Receive name port) from counter = refl
 anywhere decls (stmts.Send e port) from counter = refl
 
 -- the code of a body is that of its statements, one after another
-pub block_code-straight : (decls : List PlainDecl) (body : List PlainStmt) (id from counter : ℕ)
-    → block_code (block_from id decls body) (vars_of decls) from counter ≡ flat_map (lines_of decls) body
-block_code-straight decls [] id from counter = refl
-block_code-straight decls (s ∷ ss) id from counter =
-    rw (anywhere decls s from counter) (ap (λ l. lines_of decls s ++ l) (block_code-straight decls ss (id + 1) _ _))
+pub block_code-straight : (decls : List PlainDecl) (body : List PlainStmt) (id from : ℕ) (counters : Counters)
+    → block_code (block_from id decls body) (vars_of decls) from counters ≡ flat_map (lines_of decls) body
+block_code-straight decls [] id from counters = refl
+block_code-straight decls (s ∷ ss) id from counters =
+    rw (anywhere decls s from (counter_of counters id)) (ap (λ l. lines_of decls s ++ l) (block_code-straight decls ss (id + 1) _ _))
 
 -- ---- states
 
@@ -68,7 +69,7 @@ loops_none decls (s ∷ ss) id = omega (arith, act_loops_none decls s, loops_non
 pub whole_code_is : (decls : List PlainDecl) (body : List PlainStmt) (code one two : List Line) → code ≡ flat_map (lines_of decls) body → one ≡ code ++ at 0 Mark → two ≡ one ++ at 0 End
     → two ≡ whole_code (block_from 0 decls body) (vars_of decls)
 whole_code_is decls body code one two c o t =
-    rw (t, o, c, block_code-straight decls body 0 0 (all_words (vars_of decls))) (append_assoc (flat_map (lines_of decls) body) (at 0 Mark) (at 0 End))
+    rw (t, o, c, block_code-straight decls body 0 0 (counters_of (block_from 0 decls body) (vars_of decls))) (append_assoc (flat_map (lines_of decls) body) (at 0 Mark) (at 0 End))
 
 -- the task of an image
 pub task_is : (tree : PlainTree) (inputs outputs : List (List ℕ)) (states : List ImageState) (cells : ℕ) (code : List Line)

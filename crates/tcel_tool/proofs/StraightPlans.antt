@@ -18,7 +18,9 @@ use Rattle.tcel_cost.specs.Expressions.{expr_cycles, operator_key}
 use Rattle.tcel_tool.specs.PlainTree.{IsPlain, ExprIsPlain, StmtIsPlain, act_of, block_from, expr_of, operand_of, task_of, vars_of}
 use Rattle.tcel_tool.specs.StraightPlan.{operand_cycles, straight_cycles, stmt_cycles, body_cycles, plan_of}
 use Rattle.tcel_cost.specs.Walks.{Then, Walks, ActWalks, EndsAt, IsTotal}
-use Rattle.tcel_cost.specs.WholePlan.{ArePoints, IsWholePlan}
+use Rattle.tcel_cost.specs.Plans.{ArePoints}
+use Rattle.tcel_cost.specs.WholePlan.{IsWholePlan}
+use Rattle.tcel_cost.proofs.Totals.{passes_total}
 
 module _ (costs : Costs) where
   -- a sum or a difference
@@ -96,9 +98,11 @@ module _ (costs : Costs) where
   plan_is tree plain =
       record {
         period = refl;
-        end = costs.dispatch + body_cycles costs tree.body;
-        longest = body_total tree.decls tree.body 0 costs.dispatch plain.statements;
-        total = refl;
+        first = costs.dispatch + body_cycles costs tree.body;
+        first_total = body_total tree.decls tree.body 0 costs.dispatch plain.statements;
+        rest = 0;
+        rest_total = passes_total 0 0;
+        total = omega arith;
         windows = [];
         in_text = no_points tree.decls tree.body 0 costs.dispatch plain.statements;
         points = refl;

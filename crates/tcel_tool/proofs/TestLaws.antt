@@ -93,9 +93,12 @@ frames tree costs cycles hyper plain d =
     let positive : 0 < plan.period = omega (arith, only.whole.period, plain.period.0) in
     let repeats = only_hyperperiod plan hyper positive (subst (λ (ps : List Plan). IsHyperperiod ps hyper) only.alone d.period) in
     let total = ap (λ (ps : List Plan). demand ps hyper) only.alone ∙ ap (demand (plan ∷ [])) repeats ∙ own_demand plan positive in
-    let same : only.whole.end ≡ known.end = omega (arith, only.whole.longest.greatest known.end known.longest.there, known.longest.greatest only.whole.end only.whole.longest.there) in
+    let firsts : only.whole.first ≡ known.first =
+    omega (arith, only.whole.first_total.greatest known.first known.first_total.there, known.first_total.greatest only.whole.first only.whole.first_total.there) in
+    let rests : only.whole.rest ≡ known.rest =
+    omega (arith, only.whole.rest_total.greatest known.rest known.rest_total.there, known.rest_total.greatest only.whole.rest only.whole.rest_total.there) in
     record {
-      cycles_are = omega (arith, d.cycles_of, total, same, only.whole.total, known.total);
+      cycles_are = omega (arith, d.cycles_of, total, firsts, rests, only.whole.total, known.total);
       hyper_is = omega (arith, repeats, only.whole.period);
     }
 

@@ -15,7 +15,7 @@ use Rattle.tcel_script.specs.declared.fail.ScriptFail.{ScriptFail}
 use Rattle.tcel_verify.specs.Ports.{port_row, port_rows}
 use Rattle.tcel_tool.specs.Headline.{KeepsItsPromise}
 use Rattle.tcel_code.specs.Theorem.{HasStreams}
-use Rattle.tcel_code.specs.Layout.{image_of, image_task, written}
+use Rattle.tcel_code.specs.Layout.{image_of, written}
 use Rattle.tcel_tool.specs.RunCommand.{Spells}
 use Rattle.tcel_tool.specs.WrittenImages.{RunsOfWrittenImagesMeet, WrittenImagesAreTaken}
 
@@ -25,9 +25,9 @@ given_streams None found streams e = cc
 given_streams (Some fault) found streams e = absurd cc
 
 -- a script gives each task a stream for each of its inputs
-has_streams : (set : List Task) (lines : List Line) → AllZip HasStreams set (streams_of (map port_row (map image_task set)) lines)
-has_streams [] lines = tt
-has_streams (task ∷ set) lines = (length-map task.inputs (λ (input : List ℕ). unwrap_or (stream_in lines task.name input) []), has_streams set lines)
+has_streams : (set : List Task) (costs : Costs) (lines : List Line) → AllZip HasStreams set (streams_of (map port_row (image_of set costs).tasks) lines)
+has_streams [] costs lines = tt
+has_streams (task ∷ set) costs lines = (length-map task.inputs (λ (input : List ℕ). unwrap_or (stream_in lines task.name input) []), has_streams set costs lines)
 
 -- the image that written bytes spell is the one that was written
 same_image : (set : List Task) (costs : Costs) (kept : KeepsItsPromise set costs) (given : Image) → Spells (written set costs) given → image_of set costs ≡ given
@@ -39,7 +39,7 @@ runs_meet = λ set costs kept script given streams ticks runs.
     let read = subst (λ (i : Image). script_of (port_rows i) script ≡ Ok streams) (sym is) runs.streams_in in
     let found = streams_of (port_rows (image_of set costs)) (script_lines script) in
     let same = given_streams _ found streams read in
-    let meets = kept.runs streams ticks (subst (λ (s : Streams). AllZip HasStreams set s) same (has_streams set (script_lines script))) in
+    let meets = kept.runs streams ticks (subst (λ (s : Streams). AllZip HasStreams set s) same (has_streams set costs (script_lines script))) in
     subst (λ (i : Image). Meets set kept.plans streams ticks (trace i streams ticks)) is meets
 
 pub are_taken : WrittenImagesAreTaken
