@@ -31,17 +31,17 @@ pub at_load : {T : Type 0} (words : List (List ℕ)) (word limit : ℕ) (old new
 at_load words word limit old new result given exit stopped = subst (StopsAtLoad words word limit old new) (sym (at_exit result given exit)) stopped
 
 -- a test stopped the call
-abbrev pub stops : {T : Type 0} (Cause : Status → Type 0) (shelf : SeenShelf) (out : Seen) (result : Result T Status) (given : Status)
+abbrev pub stops : {T : Type 0} {Cause : Status → Type 0} {shelf : SeenShelf} {out : Seen} (result : Result T Status) (given : Status)
     → IsErrAnd result (λ e. e ≡ given) → Cause given → Stops Cause shelf (ended shelf out out result)
-stops Cause shelf out result given exit cause = record { cause = subst Cause (sym (at_exit result given exit)) cause; same = refl; untouched = refl }
+stops {Cause = Cause} result given exit cause = record { cause = subst Cause (sym (at_exit result given exit)) cause; same = refl; untouched = refl }
 
 -- the text was put up to a fault
-abbrev pub cut_off : {T : Type 0} (IsPieces : List (List ℕ) → Type 0) (pieces : List (List ℕ)) (shelf : SeenShelf) (before after : Seen) (result : Result T Status)
+abbrev pub cut_off : {T : Type 0} {IsPieces : List (List ℕ) → Type 0} {shelf : SeenShelf} {before after : Seen} (pieces : List (List ℕ)) (result : Result T Status)
     → IsPieces pieces → IsErrAnd result (λ e. e ≡ statuses.WriteFault) → AreCutOff pieces before after → Writes IsPieces shelf (ended shelf before after result)
-cut_off IsPieces pieces shelf before after result text exit cut =
+cut_off pieces result text exit cut =
     record { pieces = pieces; text = text; same = refl; put = inr (at_exit result statuses.WriteFault exit, cut) }
 
 -- all of it was put
-abbrev pub taken : {T : Type 0} (IsPieces : List (List ℕ) → Type 0) (pieces : List (List ℕ)) (shelf : SeenShelf) (before after : Seen) (done : T)
-    → IsPieces pieces → AreTaken pieces before after → Writes IsPieces shelf (ended shelf before after (Ok done))
-taken IsPieces pieces shelf before after done text all = record { pieces = pieces; text = text; same = refl; put = inl (refl, all) }
+abbrev pub taken : {IsPieces : List (List ℕ) → Type 0} {shelf : SeenShelf} {before after : Seen} (pieces : List (List ℕ))
+    → IsPieces pieces → AreTaken pieces before after → Writes IsPieces shelf (at_end shelf before after statuses.Ok)
+taken pieces text all = record { pieces = pieces; text = text; same = refl; put = inl (refl, all) }
