@@ -9,7 +9,7 @@ one_more count = max count (min (count + 1) (2 ^ 64 - 1))
 
 -- the count is above its earlier value, or at the last one
 abbrev pub Rose : ℕ → ℕ → Type 0
-Rose before now = min (before + 1) (2 ^ 64 - 1) ≤ now
+Rose before now = one_more before ≤ now
 
 -- a count that never falls rose in a call where it rose in a part of it
 pub Rose-within : (before start end now : ℕ) → before ≤ start → Rose start end → end ≤ now → Rose before now
@@ -33,6 +33,17 @@ pub PutsAtMost-put : (piece : List ℕ) (old new : Option ℕ) → StaysTold (λ
 PutsAtMost-put piece None new counted = tt
 PutsAtMost-put piece (Some x) None counted = absurd counted
 PutsAtMost-put piece (Some x) (Some y) counted = omega (arith, counted, puts_after-one piece x)
+
+-- no put at all
+pub PutsAtMost-none : (puts : Option ℕ) → PutsAtMost 0 puts puts
+PutsAtMost-none None = tt
+PutsAtMost-none (Some puts) = omega arith
+
+-- so many puts are at most more
+pub PutsAtMost-more : (most more : ℕ) (old new : Option ℕ) → most ≤ more → PutsAtMost most old new → PutsAtMost more old new
+PutsAtMost-more most more None new le h = tt
+PutsAtMost-more most more (Some x) None le h = absurd h
+PutsAtMost-more most more (Some x) (Some y) le h = omega (arith, h)
 
 -- so many puts and then more
 pub PutsAtMost-append : (first second : ℕ) (start middle end : Option ℕ) → PutsAtMost first start middle → PutsAtMost second middle end → PutsAtMost (first + second) start end

@@ -1,31 +1,11 @@
 -- Pieces that are put one after another, up to the first fault.
-use Rattle.std.specs.Prelude.{◌≡◌, ◌⊎◌, ℕ, List, [], ◌∷◌, ◌++◌, Option}
+use Rattle.std.specs.Prelude.{◌≡◌, ◌⊎◌, ℕ, ◌+◌, List, [], ◌∷◌, ◌++◌, length}
 use Rattle.std.specs.List.{concat}
-use Rattle.std.proofs.Common.{sym, subst, inl, inr}
-use Rattle.tcel_io.specs.Count.{Rose, puts_after}
+use Rattle.std.proofs.Common.{◌∙◌, refl, sym, subst, inl, inr, arith}
+use Rattle.tcel_io.specs.Count.{PutsAtMost, PutsAtMost-append, PutsAtMost-more, PutsAtMost-none, PutsAtMost-put, Rose}
+use Rattle.tcel_io.specs.Reach.{ReachesWithin, ReachesWithin-append, ReachesWithin-more, ReachesWithin-none, ReachesWithin-put}
+use Rattle.tcel_io.specs.Seen.{IsCutOff, IsTaken, Seen}
 use Rattle.tcel_io.specs.Taken.{Takes, Takes-none, Takes-append, TakesPrefix, TakesPrefix-all, TakesPrefix-append, TakesPrefix-more}
-use Rattle.tcel_io.specs.Told.{StaysTold}
-
--- what is seen of a sink: the bytes taken, the faults and the puts so far
-pub record Seen : Type 0 where
-  pub taken : Option (List ℕ)
-  pub faults : ℕ
-  pub puts : Option ℕ
-
-abbrev pub seen : Option (List ℕ) → ℕ → Option ℕ → Seen
-seen taken faults puts = record { taken = taken; faults = faults; puts = puts }
-
--- the piece was put, and taken whole
-pub record IsTaken (piece : List ℕ) (old new : Seen) : Type 0 where
-  pub whole : Takes piece old.taken new.taken
-  pub faults : new.faults ≡ old.faults
-  pub counted : StaysTold (λ before after. after ≡ puts_after piece before) old.puts new.puts
-
--- the piece was put, and a fault came: a prefix of it was taken
-pub record IsCutOff (piece : List ℕ) (old new : Seen) : Type 0 where
-  pub part : TakesPrefix piece old.taken new.taken
-  pub fault : Rose old.faults new.faults
-  pub counted : StaysTold (λ before after. after ≡ puts_after piece before) old.puts new.puts
 
 -- the pieces were put in turn, each by one put, and all were taken
 abbrev pub AreTaken : List (List ℕ) → Seen → Seen → Type 0
@@ -84,3 +64,46 @@ ArePut-whole pieces old new (inr cut) = inl (AreCutOff-fault pieces old new cut)
 pub ArePut-prefix : (pieces : List (List ℕ)) (old new : Seen) → ArePut pieces old new → TakesPrefix (concat pieces) old.taken new.taken
 ArePut-prefix pieces old new (inl all) = TakesPrefix-all (concat pieces) old.taken new.taken (AreTaken-whole pieces old new all)
 ArePut-prefix pieces old new (inr cut) = AreCutOff-prefix pieces old new cut
+
+-- they reach no further than all of them together
+pub AreTaken-reach : (pieces : List (List ℕ)) (old new : Seen) → AreTaken pieces old new → ReachesWithin (concat pieces) old.taken old.reach new.reach
+AreTaken-reach [] old new same = subst (λ (s : Seen). ReachesWithin [] old.taken old.reach s.reach) (sym same) (ReachesWithin-none old.taken old.reach)
+AreTaken-reach (piece ∷ pieces) old new (middle, one, rest) =
+    ReachesWithin-append piece (concat pieces) old.taken middle.taken old.reach middle.reach new.reach one.whole
+    (ReachesWithin-put piece old.taken old.reach middle.reach one.reach) (AreTaken-reach pieces middle new rest)
+
+pub AreCutOff-reach : (pieces : List (List ℕ)) (old new : Seen) → AreCutOff pieces old new → ReachesWithin (concat pieces) old.taken old.reach new.reach
+AreCutOff-reach [] old new none = absurd none
+AreCutOff-reach (piece ∷ pieces) old new (inl cut) =
+    ReachesWithin-more piece (concat pieces) old.taken old.reach new.reach (ReachesWithin-put piece old.taken old.reach new.reach cut.reach)
+AreCutOff-reach (piece ∷ pieces) old new (inr (middle, one, rest)) =
+    ReachesWithin-append piece (concat pieces) old.taken middle.taken old.reach middle.reach new.reach one.whole
+    (ReachesWithin-put piece old.taken old.reach middle.reach one.reach) (AreCutOff-reach pieces middle new rest)
+
+-- and each is one put at most
+pub AreTaken-puts : (pieces : List (List ℕ)) (old new : Seen) → AreTaken pieces old new → PutsAtMost (length pieces) old.puts new.puts
+AreTaken-puts [] old new same = subst (λ (s : Seen). PutsAtMost 0 old.puts s.puts) (sym same) (PutsAtMost-none old.puts)
+AreTaken-puts (piece ∷ pieces) old new (middle, one, rest) =
+    PutsAtMost-more (1 + length pieces) (length (piece ∷ pieces)) old.puts new.puts (omega arith)
+    (PutsAtMost-append 1 (length pieces) old.puts middle.puts new.puts (PutsAtMost-put piece old.puts middle.puts one.counted) (AreTaken-puts pieces middle new rest))
+
+pub AreCutOff-puts : (pieces : List (List ℕ)) (old new : Seen) → AreCutOff pieces old new → PutsAtMost (length pieces) old.puts new.puts
+AreCutOff-puts [] old new none = absurd none
+AreCutOff-puts (piece ∷ pieces) old new (inl cut) =
+    PutsAtMost-more 1 (length (piece ∷ pieces)) old.puts new.puts (omega arith) (PutsAtMost-put piece old.puts new.puts cut.counted)
+AreCutOff-puts (piece ∷ pieces) old new (inr (middle, one, rest)) =
+    PutsAtMost-more (1 + length pieces) (length (piece ∷ pieces)) old.puts new.puts (omega arith)
+    (PutsAtMost-append 1 (length pieces) old.puts middle.puts new.puts (PutsAtMost-put piece old.puts middle.puts one.counted) (AreCutOff-puts pieces middle new rest))
+
+-- without a fault the count of faults stays
+pub AreTaken-faults : (pieces : List (List ℕ)) (old new : Seen) → AreTaken pieces old new → new.faults ≡ old.faults
+AreTaken-faults [] old new same = subst (λ (s : Seen). s.faults ≡ old.faults) (sym same) refl
+AreTaken-faults (piece ∷ pieces) old new (middle, one, rest) = AreTaken-faults pieces middle new rest ∙ one.faults
+
+pub ArePut-reach : (pieces : List (List ℕ)) (old new : Seen) → ArePut pieces old new → ReachesWithin (concat pieces) old.taken old.reach new.reach
+ArePut-reach pieces old new (inl all) = AreTaken-reach pieces old new all
+ArePut-reach pieces old new (inr cut) = AreCutOff-reach pieces old new cut
+
+pub ArePut-puts : (pieces : List (List ℕ)) (old new : Seen) → ArePut pieces old new → PutsAtMost (length pieces) old.puts new.puts
+ArePut-puts pieces old new (inl all) = AreTaken-puts pieces old new all
+ArePut-puts pieces old new (inr cut) = AreCutOff-puts pieces old new cut

@@ -4,8 +4,8 @@ pub mod InTurn
 pub mod Load
 pub mod MemShelf
 pub mod MemSink
-pub mod Pieces
 pub mod Reach
+pub mod Seen
 pub mod Shelf
 pub mod Taken
 pub mod Told

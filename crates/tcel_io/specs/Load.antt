@@ -1,5 +1,5 @@
 -- The list of loads that a shelf keeps.
-use Rattle.std.specs.Prelude.{◌≡◌, ℕ, Bool, true, false, List, [], ◌∷◌, ◌++◌, Result, Ok, Err, count_by}
+use Rattle.std.specs.Prelude.{ℕ, Bool, true, false, List, [], ◌∷◌, Result, Ok, Err, count_by}
 use Rattle.tcel_io.specs.declared.loaded.Outcome.{Outcome}
 use Rattle.tcel_io.specs.declared.loaded.Outcome.TheVariants.{Done, Fault, TooLong}
 use Rattle.tcel_io.specs.declared.shelf.LoadFail.{LoadFail}
@@ -17,10 +17,6 @@ entries_of name limit (Ok done) = record { name = name; limit = limit; outcome =
 entries_of name limit (Err fail.Fault) = record { name = name; limit = limit; outcome = Fault } ∷ []
 entries_of name limit (Err fail.TooLong) = record { name = name; limit = limit; outcome = TooLong } ∷ []
 entries_of name limit (Err fail.NoMemory) = []
-
--- a call added these loads at the list's end
-abbrev pub AddsLoads : List Load → List Load → List Load → Type 0
-AddsLoads added old new = new ≡ old ++ added
 
 -- did the load end in a fault
 abbrev pub is_fault : Outcome → Bool

@@ -1,8 +1,9 @@
 -- A sink in memory.
-use Rattle.std.specs.Prelude.{◌≢◌, ℕ, ◌-◌, ◌<◌, ◌==◌, min, List, [], length, Option, IsSome, ◌⊎◌, unwrap_or, find}
+use Rattle.std.specs.Prelude.{◌≢◌, Some, ℕ, ◌-◌, ◌<◌, ◌==◌, min, List, [], length, Option, IsSome, ◌⊎◌, unwrap_or, find}
 use Rattle.std.specs.Option.{option_map}
 use Rattle.tcel_io.specs.declared.mem_sink.PutFail.{PutFail}
 use Rattle.tcel_io.specs.Count.{one_more}
+use Rattle.tcel_io.specs.Seen.{Seen}
 
 -- what it took, how much it can hold in bytes, the puts that fail, and its counters
 pub record State : Type 0 where
@@ -12,6 +13,10 @@ pub record State : Type 0 where
   pub puts : ℕ
   pub faults : ℕ
   pub reach : ℕ
+
+-- it tells all of what is seen
+abbrev pub seen : State → Seen
+seen sink = record { taken = Some sink.taken; faults = sink.faults; puts = Some sink.puts; reach = Some sink.reach }
 
 -- how many bytes the put of this number takes at most, where it is listed to fail; the first entry counts
 abbrev pub cut_of : List PutFail → ℕ → Option ℕ

@@ -1,7 +1,7 @@
-ghost use Rattle.std.specs.Prelude.{◌≡◌, ◌<◌, ◌≤◌, ◌+◌, ◌++◌, [], length, vec_len, IsErrOf, IfOk, IfSome, OnOk, OnErr};
+ghost use Rattle.std.specs.Prelude.{◌≡◌, ◌<◌, ◌≤◌, ◌+◌, ◌++◌, [], length, vec_len, IsErrOf, IfOk, IfSome, OnOk, OnErr, None};
 ghost use Rattle.std.specs.Io.{StartsWith, appended_bytes};
 ghost use Rattle.std.specs.Io.KnownBytes.{Consumes, IsAtEnd};
-ghost use Rattle.tcel_io.specs.Shelf.{AddsAtMost};
+ghost use Rattle.tcel_io.specs.Shelf.{Appends};
 
 use crate::loaded::Loaded;
 use crate::loads::{add_entry, reserve_entry};
@@ -49,9 +49,7 @@ impl HostShelf {
 impl Shelf for HostShelf {
     ghost use Rattle.std.specs.Prelude.{None};
 
-    ghost told = { λ shelf name. None };
-
-    ghost loads = { λ shelf. shelf };
+    ghost seen = { λ shelf. record { told = λ name. None; loads = shelf } };
 
     fn load(&mut self, name: &str, limit: usize, into: &mut Vec<u8>) -> Result<(), LoadFail> {
         let entry = reserve_entry(self.alloc, &mut self.loads, name)?;
@@ -68,7 +66,7 @@ fn append_path<R: Files>(
     limit: usize,
     into: &mut Vec<u8>,
 ) -> Result<(), LoadFail>
-    ensures limited { OnOk result (AddsAtMost limit into.old.items into.new.items) }
+    ensures limited { OnOk result (Appends None limit into.old.items into.new.items) }
     ensures unchanged { OnErr result (into.new.items ≡ into.old.items) }
 {
     match fs::open(rt, path) {
@@ -79,7 +77,7 @@ fn append_path<R: Files>(
 
 /// Appends what the reader has, and takes it back where that is more than the limit or a read fails.
 fn append_all<R: Read>(reader: &mut R, limit: usize, into: &mut Vec<u8>) -> Result<(), LoadFail>
-    ensures limited { OnOk result (AddsAtMost limit into.old.items into.new.items) }
+    ensures limited { OnOk result (Appends None limit into.old.items into.new.items) }
     ensures exact { OnOk result (IfSome (R.remaining reader.old) (λ bytes. into.new.items ≡ into.old.items ++ bytes)) }
     ensures too_long { IsErrOf result LoadFail.TooLong → IfSome (R.remaining reader.old) (λ bytes. limit < length bytes) }
     ensures unchanged { OnErr result (into.new.items ≡ into.old.items) }
@@ -94,7 +92,7 @@ fn append_all<R: Read>(reader: &mut R, limit: usize, into: &mut Vec<u8>) -> Resu
 
 /// Appends block by block until a read gives nothing. It refuses once there is a byte more than the limit.
 fn append_up_to<R: Read>(reader: &mut R, limit: usize, into: &mut Vec<u8>) -> Result<(), LoadFail>
-    ensures limited { OnOk result (AddsAtMost limit into.old.items into.new.items) }
+    ensures limited { OnOk result (Appends None limit into.old.items into.new.items) }
     ensures exact { OnOk result (IfSome (R.remaining reader.old) (λ bytes. into.new.items ≡ into.old.items ++ bytes)) }
     ensures too_long { IsErrOf result LoadFail.TooLong → IfSome (R.remaining reader.old) (λ bytes. limit < length bytes) }
     ensures starts { StartsWith into.new.items into.old.items }

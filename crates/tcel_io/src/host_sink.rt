@@ -52,13 +52,7 @@ impl HostSink {
 impl Sink for HostSink {
     ghost use Rattle.std.specs.Prelude.{None};
 
-    ghost taken = { λ sink. None };
-
-    ghost faults = { λ sink. sink };
-
-    ghost puts = { λ sink. None };
-
-    ghost reach = { λ sink. None };
+    ghost seen = { λ sink. record { taken = None; faults = sink; puts = None; reach = None } };
 
     ghost reach_told = { λ sink told. told };
 

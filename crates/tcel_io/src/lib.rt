@@ -3,6 +3,7 @@
 
 mod host_shelf;
 mod host_sink;
+mod laws;
 mod loaded;
 mod loads;
 mod mem_shelf;
@@ -12,6 +13,7 @@ mod sink;
 
 pub use host_shelf::HostShelf;
 pub use host_sink::HostSink;
+pub use laws::pieces_laws;
 pub use loaded::{Loaded, Outcome};
 pub use mem_shelf::{MemFile, MemShelf};
 pub use mem_sink::{MemSink, PutFail};

@@ -1,5 +1,5 @@
-ghost use Rattle.std.specs.Prelude.{◌≡◌, ◌<◌, vec_len, vec_capacity, string_bytes, IfOk, IsErrOf, OnErr, OnOk};
-ghost use Rattle.tcel_io.specs.Load.{AddsLoads, entries_of};
+ghost use Rattle.std.specs.Prelude.{◌≡◌, ◌++◌, ◌<◌, vec_len, vec_capacity, string_bytes, IfOk, IsErrOf, OnErr, OnOk};
+ghost use Rattle.tcel_io.specs.Load.{entries_of};
 
 use crate::loaded::{Loaded, Outcome};
 use crate::shelf::LoadFail;
@@ -28,7 +28,7 @@ pub(crate) fn add_entry(
     answer: Result<(), LoadFail>,
 )
     requires { vec_len loads.old < vec_capacity loads.old }
-    ensures { AddsLoads (entries_of (string_bytes name) limit answer) loads.old.items loads.new.items }
+    ensures { loads.new.items ≡ loads.old.items ++ entries_of (string_bytes name) limit answer }
 {
     let outcome = match answer {
         Ok(()) => Outcome::Done,

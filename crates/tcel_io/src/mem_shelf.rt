@@ -1,10 +1,9 @@
-ghost use Rattle.std.specs.Prelude.{◌≡◌, ◌<◌, ◌≤◌, ◌↔◌, ◌⊎◌, [], ◌++◌, length, nat_eq, find, Some, IsNone, IsErrOf, IfSome, OnOk, OnErr, Contains};
+ghost use Rattle.std.specs.Prelude.{◌≡◌, ◌<◌, ◌↔◌, ◌⊎◌, [], length, nat_eq, find, Some, IsNone, IsErrOf, IfSome, OnOk, OnErr, Contains};
 ghost use Rattle.std.specs.Option.{option_copied};
 ghost use Rattle.std.specs.Cmp.Lexicographic.{pointwise};
 ghost use Rattle.tcel_io.specs.File.{bytes_under};
-ghost use Rattle.tcel_io.specs.Load.{AddsLoads, entries_of};
-ghost use Rattle.tcel_io.specs.MemShelf.{NextLoadFails};
-ghost use Rattle.tcel_io.specs.Shelf.{TellsTheSame, AddsAtMost};
+ghost use Rattle.tcel_io.specs.MemShelf.{NextLoadFails, seen};
+ghost use Rattle.tcel_io.specs.Shelf.{Appends, after_load};
 
 use crate::loaded::Loaded;
 use crate::loads::{add_entry, reserve_entry};
@@ -63,20 +62,12 @@ impl MemShelf {
 }
 
 impl Shelf for MemShelf {
-    ghost told = { λ shelf. bytes_under shelf.files };
-
-    ghost loads = { λ shelf. shelf.loads };
+    ghost seen = { seen };
 
     fn load(&mut self, name: &str, limit: usize, into: &mut Vec<u8>) -> Result<(), LoadFail>
-        ensures listed { AddsLoads (entries_of name.now limit result) self.old.loads self.new.loads }
-        ensures told { TellsTheSame (bytes_under self.old.files) (bytes_under self.new.files) }
-
-        ensures limited { OnOk result (AddsAtMost limit into.old.items into.new.items) }
-        ensures exact { OnOk result (IfSome (bytes_under self.old.files name.now)
-            (λ bytes. into.new.items ≡ into.old.items ++ bytes)) }
-        ensures unchanged { OnErr result (into.new.items ≡ into.old.items) }
-
-        ensures fits { OnOk result (IfSome (bytes_under self.old.files name.now) (λ bytes. length bytes ≤ limit)) }
+        ensures listed { seen self.new ≡ after_load name.now limit result (seen self.old) }
+        ensures ok { OnOk result (Appends (bytes_under self.old.files name.now) limit into.old.items into.new.items) }
+        ensures err { OnErr result (into.new.items ≡ into.old.items) }
         ensures too_long { IsErrOf result LoadFail.TooLong → IfSome (bytes_under self.old.files name.now)
             (λ bytes. limit < length bytes) }
 
@@ -123,8 +114,7 @@ fn find_file<'a>(files: &'a [MemFile], name: &str) -> Option<&'a MemFile>
 /// Appends the file's bytes, or refuses them where there is none or they are above the limit.
 fn append_file(file: Option<&MemFile>, limit: usize, into: &mut Vec<u8>) -> Result<(), LoadFail>
     ensures fault { IsErrOf result LoadFail.Fault ↔ IsNone file.entry }
-    ensures bytes { OnOk result (IfSome file.entry (λ file. into.new.items ≡ into.old.items ++ file.now.bytes)) }
-    ensures fits { OnOk result (IfSome file.entry (λ file. length file.now.bytes ≤ limit)) }
+    ensures bytes { OnOk result (IfSome file.entry (λ file. Appends (Some file.now.bytes) limit into.old.items into.new.items)) }
     ensures too_long { IsErrOf result LoadFail.TooLong → IfSome file.entry (λ file. limit < length file.now.bytes) }
     ensures unchanged { OnErr result (into.new.items ≡ into.old.items) }
 {

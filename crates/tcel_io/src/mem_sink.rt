@@ -1,8 +1,7 @@
-ghost use Rattle.std.specs.Prelude.{◌≡◌, ◌≤◌, ◌↔◌, ◌++◌, [], take, Some, IfOk, IsErr, IsOk, OnOk, OnErr};
-ghost use Rattle.tcel_io.specs.Count.{Rose, one_more, puts_after};
-ghost use Rattle.tcel_io.specs.MemSink.{NextPutFails, cut_of, taken_next};
-ghost use Rattle.tcel_io.specs.Reach.{Reaches};
-ghost use Rattle.tcel_io.specs.Taken.{Takes, TakesPrefix};
+ghost use Rattle.std.specs.Prelude.{◌≡◌, ◌↔◌, ◌++◌, [], take, IfOk, IsErr, IsOk, OnOk, OnErr};
+ghost use Rattle.tcel_io.specs.Count.{one_more};
+ghost use Rattle.tcel_io.specs.MemSink.{NextPutFails, cut_of, seen, taken_next};
+ghost use Rattle.tcel_io.specs.Seen.{IsCutOff, IsTaken};
 
 use crate::sink::{Sink, SinkFault};
 use std::alloc::Global;
@@ -64,31 +63,18 @@ impl MemSink {
 }
 
 impl Sink for MemSink {
-    ghost taken = { λ sink. Some sink.taken };
-
-    ghost faults = { λ sink. sink.faults };
-
-    ghost puts = { λ sink. Some sink.puts };
-
-    ghost reach = { λ sink. Some sink.reach };
+    ghost seen = { seen };
 
     ghost reach_told = { λ sink told. told };
 
     fn put(&mut self, piece: &[u8]) -> Result<(), SinkFault>
-        ensures whole { OnOk result (Takes piece.now (Some self.old.taken) (Some self.new.taken)) }
-        ensures prefix { OnErr result (TakesPrefix piece.now (Some self.old.taken) (Some self.new.taken)) }
+        ensures taken { OnOk result (IsTaken piece.now (seen self.old) (seen self.new)) }
+        ensures cut_off { OnErr result (IsCutOff piece.now (seen self.old) (seen self.new)) }
         ensures empty { piece.now ≡ [] → IsOk result }
-
-        ensures later { self.old.faults ≤ self.new.faults }
-        ensures no_fault { OnOk result (self.new.faults ≡ self.old.faults) }
-        ensures fault { OnErr result (Rose self.old.faults self.new.faults) }
-
-        ensures puts { self.new.puts ≡ puts_after piece.now self.old.puts }
-        ensures reach { Reaches piece.now (Some self.old.taken) (Some self.old.reach) (Some self.new.reach) }
 
         // It fails exactly where the put is listed or passes the room, and takes what fits and its cut allows.
         ensures fails { IsErr result ↔ NextPutFails self.old piece.now }
-        ensures taken { self.new.taken ≡ self.old.taken ++ take (taken_next self.old piece.now) piece.now }
+        ensures grown { self.new.taken ≡ self.old.taken ++ take (taken_next self.old piece.now) piece.now }
 
         // A fault counts one. The room and the list of puts that fail stay.
         ensures counted { OnErr result (self.new.faults ≡ one_more self.old.faults) }

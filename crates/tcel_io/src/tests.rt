@@ -1,7 +1,5 @@
-ghost use Rattle.std.specs.Prelude.{◌++◌, OnErr, OnOk};
-ghost use Rattle.tcel_io.specs.Count.{PutsAtMost, Rose};
-ghost use Rattle.tcel_io.specs.Reach.{ReachesWithin};
-ghost use Rattle.tcel_io.specs.Taken.{Takes, TakesPrefix};
+ghost use Rattle.std.specs.Prelude.{[], ◌∷◌, OnErr, OnOk};
+ghost use Rattle.tcel_io.specs.InTurn.{AreCutOff, AreTaken};
 
 use crate::host_shelf::HostShelf;
 use crate::host_sink::HostSink;
@@ -110,13 +108,9 @@ fn puts_into_memory(rt: HostRuntime) -> Result<(), Fail> {
 }
 
 /// Puts a text in two pieces.
-#[tactic(auto, using(crate::specs::Pieces::pieces_of_a_text))]
 fn put_both<K: Sink>(sink: &mut K, first: &[u8], second: &[u8]) -> Result<(), SinkFault>
-    ensures whole { OnOk result (Takes (first.now ++ second.now) (K.taken sink.old) (K.taken sink.new)) }
-    ensures prefix { OnErr result (TakesPrefix (first.now ++ second.now) (K.taken sink.old) (K.taken sink.new)) }
-    ensures fault { OnErr result (Rose (K.faults sink.old) (K.faults sink.new)) }
-    ensures puts { PutsAtMost 2 (K.puts sink.old) (K.puts sink.new) }
-    ensures reach { ReachesWithin (first.now ++ second.now) (K.taken sink.old) (K.reach sink.old) (K.reach sink.new) }
+    ensures taken { OnOk result (AreTaken (first.now ∷ second.now ∷ []) (K.seen sink.old) (K.seen sink.new)) }
+    ensures cut_off { OnErr result (AreCutOff (first.now ∷ second.now ∷ []) (K.seen sink.old) (K.seen sink.new)) }
 {
     sink.put(first)?;
     sink.put(second)

@@ -20,7 +20,7 @@ pub record IsOnlyPlan (task : Task) (costs : Costs) (plans : List Plan) : Type 0
   pub whole : IsWholePlan task costs plan
   pub alone : plans ≡ plan ∷ []
 
-only_plan : (task : Task) (costs : Costs) (plans : List Plan) → AreWholePlans (task ∷ []) costs plans → IsOnlyPlan task costs plans
+pub only_plan : (task : Task) (costs : Costs) (plans : List Plan) → AreWholePlans (task ∷ []) costs plans → IsOnlyPlan task costs plans
 only_plan task costs [] h = absurd h
 only_plan task costs (plan ∷ plans) h = record { plan = plan; whole = h.0; alone = ap (λ (others : List Plan). plan ∷ others) h.1 }
 

@@ -1,24 +1,14 @@
 -- The lines of a run, tick by tick.
-use Rattle.std.proofs.Common.{◌≡◌, ◌⊎◌, inl, inr, Option, ◌<◌, ◌≤◌, ◌-◌, ℕ, zero, suc, List, ◌++◌, sym, ◌∙◌, ap, subst, Result, Ok, Err, arith}
+use Rattle.std.proofs.Common.{◌≡◌, ◌<◌, ◌-◌, ℕ, zero, suc, List, ◌++◌, sym, ◌∙◌, ap, subst, Result, Ok, Err, arith}
 use Rattle.std.specs.Prelude.{OnErr, option_to_list}
-use Rattle.std.specs.List.{concat, flat_map}
-use Rattle.tcel_image.specs.Machine.{Streams, entries}
-use Rattle.tcel_image.specs.declared.image.Image.{Image}
+use Rattle.tcel_image.specs.Machine.{entries}
 use Rattle.tcel_image.specs.TraceText.{line}
-use Rattle.tcel_machine.specs.Run.{Run, after_tick, loaded, tick_of}
-use Rattle.tcel_tool.specs.RunAnswer.{RunAnswers, Runs, most_ticks}
-use Rattle.tcel_tool.specs.declared.status.Status.{Status}
-use Rattle.tcel_tool.specs.declared.status.Status.TheVariants as statuses
+use Rattle.tcel_machine.specs.Run.{Run, after_tick, tick_of}
 use Rattle.tcel_tool.specs.Lines.{lines, tick_lines}
 use Rattle.std.proofs.lemmas.List.{map-append}
-use Rattle.std.proofs.lemmas.List.Concat.{concat_is, flat_map-append}
 
 after_one : (run : Run) (left : ℕ) → lines run (suc left) ≡ tick_lines run ++ lines (after_tick run) left
 after_one run left = map-append (line run.image) (option_to_list (tick_of run).entry) (entries run.image run.streams left (after_tick run).machine)
-
-pub concat-append : (a b : List (List ℕ)) → concat (a ++ b) ≡ concat a ++ concat b
-concat-append a b =
-    concat_is (a ++ b) ∙ flat_map-append (λ (l : List ℕ). l) a b ∙ sym (ap (λ l. concat a ++ l) (concat_is b) ∙ ap (λ l. l ++ flat_map (λ (x : List ℕ). x) b) (concat_is a))
 
 -- what holds of the next tick's lines and then those of the ticks behind it
 pub line_by_line : (P : List (List ℕ) → Type 0) (run next : Run) (left : ℕ) → 0 < left → next ≡ after_tick run → P (tick_lines run ++ lines next (left - 1)) → P (lines run left)
@@ -31,17 +21,3 @@ line_by_line P run next (suc left) some is h =
 pub on_err : {T E : Type 0} (r : Result T E) (P : Type 0) → P → OnErr r P
 on_err (Ok x) P h = tt
 on_err (Err e) P h = h
-
--- a run that was loaded ends with Ok or a fault of its output
-pub run_ends : (image script : Option (List ℕ)) (ticks : ℕ) (All Part : List (List ℕ) → Type 0) (status : Status) (run : Run) → (status ≡ statuses.Ok) ⊎ (status ≡ statuses.WriteFault)
-    → ticks ≤ most_ticks → (given : Image) × (streams : Streams) × Runs image script given streams × (run ≡ loaded given streams)
-    → (status ≡ statuses.Ok → All (lines run ticks)) → (status ≡ statuses.WriteFault → Part (lines run ticks)) → RunAnswers image script ticks All Part status
-run_ends image script ticks All Part status run ends few is whole part =
-    elim ends [
-      | inl e ↦
-          subst (RunAnswers image script ticks All Part) (sym e)
-          (few, (is.0, is.1, is.2, subst (λ r. All (lines r ticks)) is.3 (whole e)))
-      | inr e ↦
-          subst (RunAnswers image script ticks All Part) (sym e)
-          (few, (is.0, is.1, is.2, subst (λ r. Part (lines r ticks)) is.3 (part e)))
-    ]

@@ -16,7 +16,7 @@ use Rattle.tcel_verify.specs.Ports.{port_row, port_rows}
 use Rattle.tcel_tool.specs.Headline.{KeepsItsPromise}
 use Rattle.tcel_code.specs.Theorem.{HasStreams}
 use Rattle.tcel_code.specs.Layout.{image_of, written}
-use Rattle.tcel_tool.specs.RunAnswer.{Spells}
+use Rattle.tcel_tool.specs.RunCommand.{Spells}
 use Rattle.tcel_tool.specs.WrittenImages.{RunsOfWrittenImagesMeet, WrittenImagesAreTaken}
 
 -- streams are given without a fault
@@ -30,7 +30,7 @@ has_streams [] costs lines = tt
 has_streams (task ∷ set) costs lines = (length-map task.inputs (λ (input : List ℕ). unwrap_or (stream_in lines task.name input) []), has_streams set costs lines)
 
 -- the image that written bytes spell is the one that was written
-same_image : (set : List Task) (costs : Costs) (kept : KeepsItsPromise set costs) (given : Image) → Spells (Some (written set costs)) given → image_of set costs ≡ given
+same_image : (set : List Task) (costs : Costs) (kept : KeepsItsPromise set costs) (given : Image) → Spells (written set costs) given → image_of set costs ≡ given
 same_image set costs kept given spells = told_apart (image_of set costs) given kept.spelled spells.range spells.spelled
 
 pub runs_meet : RunsOfWrittenImagesMeet

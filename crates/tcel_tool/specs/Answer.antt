@@ -1,186 +1,127 @@
--- What a call of `compile` answers, and what it does to its files and streams.
-use Rattle.std.specs.Prelude.{◌≡◌, ◌≢◌, ℕ, ◌<◌, ◌≤◌, ◌⊎◌, Bool, true, false, List, [], ◌∷◌, Option, IfSome, Err, length, codes}
-use Rattle.tcel_num.specs.Plan.{Plan}
-use Rattle.tcel_io.specs.Load.{Load, AddsLoads}
+-- What a call of a command does: its stages in order, up to the first that stops it, and then its text.
+use Rattle.std.specs.Prelude.{◌≡◌, ℕ, ◌<◌, ◌≤◌, ◌==◌, ◌⊎◌, if◌then◌else◌, Bool, true, false, List, [], ◌∷◌, ◌++◌, MatchOption, IfSome, Option, Result, Ok, Err, length}
+use Rattle.tcel_io.specs.InTurn.{AreCutOff, AreTaken}
+use Rattle.tcel_io.specs.Seen.{Seen}
+use Rattle.tcel_io.specs.Shelf.{SeenShelf}
 use Rattle.tcel_io.specs.declared.loaded.Outcome.{Outcome}
-use Rattle.tcel_io.specs.declared.loaded.Outcome.TheVariants.{Done, Fault, TooLong}
-use Rattle.tcel_target.specs.declared.costs.Costs.{Costs}
-use Rattle.tcel_target.specs.declared.fail.TargetFail.{TargetFail}
-use Rattle.tcel_target.specs.declared.fail.TargetFail.TheVariants as fails
-use Rattle.tcel_target.specs.Costs.{CostsInRange}
-use Rattle.tcel_target.specs.Target.{IsTarget, Says}
-use Rattle.tcel_tool.specs.declared.plain_tree.PlainTree.{PlainTree}
+use Rattle.tcel_io.specs.declared.loaded.Outcome.TheVariants as outcomes
+use Rattle.tcel_tool.specs.CommandLine.{number_at, word_at}
+use Rattle.tcel_tool.specs.Commands.{IsText, Passes, Refuses, stages_of}
+use Rattle.tcel_tool.specs.Stage.{Call, Stage, load, bound, test}
+use Rattle.tcel_tool.specs.declared.command.Command.{Command}
+use Rattle.tcel_tool.specs.declared.status.CountKind.{CountKind}
+use Rattle.tcel_tool.specs.declared.status.LimitFault.TheVariants as limits
 use Rattle.tcel_tool.specs.declared.status.Status.{Status}
 use Rattle.tcel_tool.specs.declared.status.Status.TheVariants as statuses
-use Rattle.tcel_tool.specs.declared.status.LimitFault.TheVariants as limits
-use Rattle.tcel_tool.specs.CanonicalText.{text_of}
-use Rattle.tcel_num.specs.Hyperperiod.{IsHyperperiod, demand}
-use Rattle.tcel_code.specs.Layout.{written}
-use Rattle.tcel_tool.specs.PlainTree.{IsPlain, IsWritable, set_of}
-use Rattle.tcel_tool.specs.StraightPlan.{frame_ticks}
-use Rattle.tcel_cost.specs.WholePlan.{AreWholePlans}
 
--- ---- the words
+-- before any file is read
+abbrev pub begun : List (List ℕ) → Call
+begun words = record { words = words; read = λ word. [] }
 
--- `compile`, a program and a target
-abbrev pub IsCompile : List (List ℕ) → Type 0
-IsCompile words = (program : List ℕ) × (target : List ℕ) × (words ≡ codes "compile" ∷ program ∷ target ∷ [])
+-- these bytes were read from the file of this word
+abbrev pub with_read : ℕ → List ℕ → Call → Call
+with_read word bytes call = record { words = call.words; read = λ other. if other == word then bytes else call.read other }
 
--- ---- the loads
+-- how a call ended: the shelf then, the output before the call and then, and the status
+pub record Ended : Type 0 where
+  pub shelf : SeenShelf
+  pub before : Seen
+  pub after : Seen
+  pub status : Status
 
--- the most bytes of a program, and of a target
-abbrev pub program_limit : ℕ
-program_limit = 1048576
+-- ---- the stages
 
-abbrev pub target_limit : ℕ
-target_limit = 65536
+-- the shelf after a load of the file of this word: the same bytes are told, and the list has one entry more
+abbrev pub with_load : List (List ℕ) → ℕ → ℕ → Outcome → SeenShelf → SeenShelf
+with_load words word limit outcome shelf =
+    record { told = shelf.told; loads = shelf.loads ++ record { name = word_at words word; limit = limit; outcome = outcome } ∷ [] }
 
--- a load of one file
-abbrev pub load_of : List ℕ → ℕ → Outcome → Load
-load_of name limit outcome = record { name = name; limit = limit; outcome = outcome }
+-- the file of this word was loaded: these are its bytes, at most so many, and the told ones where they are told
+pub record Loads (words : List (List ℕ)) (word limit : ℕ) (old new : SeenShelf) (bytes : List ℕ) : Type 0 where
+  pub told : IfSome (old.told (word_at words word)) (λ all. bytes ≡ all)
+  pub short : length bytes ≤ limit
+  pub listed : new ≡ with_load words word limit outcomes.Done old
 
-abbrev pub program_load : List ℕ → Outcome → Load
-program_load program outcome = load_of program program_limit outcome
+-- the load stopped the call: for want of memory, since the file can't be read, or since it is longer than the limit
+abbrev pub StopsAtLoad : List (List ℕ) → ℕ → ℕ → SeenShelf → SeenShelf → Status → Type 0
+StopsAtLoad words word limit old new status =
+    ((status ≡ statuses.NoMemory) × (new ≡ old))
+    ⊎ (((status ≡ statuses.ReadFault word) × (new ≡ with_load words word limit outcomes.Fault old))
+    ⊎ ((status ≡ statuses.Limit (limits.Bytes word limit)) × (new ≡ with_load words word limit outcomes.TooLong old)
+    × IfSome (old.told (word_at words word)) (λ all. limit < length all)))
 
-abbrev pub target_load : List ℕ → Outcome → Load
-target_load target outcome = load_of target target_limit outcome
+-- the number that this word writes is above the greatest one allowed
+abbrev pub IsAbove : List (List ℕ) → CountKind → ℕ → ℕ → Status → Type 0
+IsAbove words kind word most status =
+    (status ≡ statuses.Limit (limits.Count kind (number_at words word))) × (most < number_at words word)
 
--- both files were loaded
-abbrev pub both_loads : List ℕ → List ℕ → List Load
-both_loads program target = program_load program Done ∷ target_load target Done ∷ []
+-- memory ran out, or there is this cause
+abbrev pub OrMemory : (Status → Type 0) → Status → Type 0
+OrMemory Cause status = (status ≡ statuses.NoMemory) ⊎ Cause status
 
--- the last of the loads is that of this word, with its limit, and ended so; each one before it was done
-abbrev pub EndWith : Outcome → List ℕ → List ℕ → ℕ → ℕ → List Load → Type 0
-EndWith outcome program target word limit loads =
-    ((word ≡ 1) × (limit ≡ program_limit) × (loads ≡ program_load program outcome ∷ []))
-    ⊎ ((word ≡ 2) × (limit ≡ target_limit) × (loads ≡ program_load program Done ∷ target_load target outcome ∷ []))
+-- the call was stopped for this cause: nothing was put, and the shelf is as it was
+pub record Stops (Cause : Status → Type 0) (shelf : SeenShelf) (end : Ended) : Type 0 where
+  pub cause : Cause end.status
+  pub same : end.shelf ≡ shelf
+  pub untouched : end.after ≡ end.before
 
--- the loads of `compile` where it ends with this status: each file once, in order, up to the last one made
-abbrev pub AreLoads : List ℕ → List ℕ → Status → List Load → Type 0
-AreLoads program target statuses.Ok loads = loads ≡ both_loads program target
-AreLoads program target (statuses.Overload cycles hyper) loads = loads ≡ both_loads program target
-AreLoads program target (statuses.Limit (limits.Bytes word limit)) loads = EndWith TooLong program target word limit loads
-AreLoads program target (statuses.Limit (limits.Count kind value)) loads = ⊥
-AreLoads program target statuses.Words loads = ⊥
-AreLoads program target (statuses.ReadFault word) loads = (limit : ℕ) × EndWith Fault program target word limit loads
-AreLoads program target statuses.WriteFault loads = loads ≡ both_loads program target
-AreLoads program target statuses.NoMemory loads =
-    (loads ≡ []) ⊎ (loads ≡ program_load program Done ∷ []) ⊎ (loads ≡ both_loads program target)
-AreLoads program target (statuses.Image fail) loads = ⊥
-AreLoads program target (statuses.Flaw flaw) loads = ⊥
-AreLoads program target (statuses.Script fail) loads = ⊥
-AreLoads program target (statuses.Target fail) loads = loads ≡ both_loads program target
-AreLoads program target (statuses.Beyond word) loads = (word ≡ 1) × (loads ≡ program_load program Done ∷ [])
+-- ---- the text
 
--- a second file is loaded only where this is so
-abbrev pub SecondAfter : Type 0 → List Load → Type 0
-SecondAfter Accepted loads = 2 ≤ length loads → Accepted
+-- it was put piece by piece: all of it, or up to the first fault
+pub record Writes (IsPieces : List (List ℕ) → Type 0) (shelf : SeenShelf) (end : Ended) : Type 0 where
+  pub pieces : List (List ℕ)
+  pub text : IsPieces pieces
+  pub same : end.shelf ≡ shelf
+  pub put : ((end.status ≡ statuses.Ok) × AreTaken pieces end.before end.after) ⊎ ((end.status ≡ statuses.WriteFault) × AreCutOff pieces end.before end.after)
 
--- ---- the answer
+-- ---- the whole call
 
--- the program's bytes, where they are told, are the canonical text of this plain tree, whose names are names and whose numbers fit 64 bits
-pub record Accepts (program : Option (List ℕ)) (tree : PlainTree) : Type 0 where
-  pub plain : IsPlain tree
-  pub writable : IsWritable tree
-  pub text : IfSome program (λ bytes. bytes ≡ text_of tree)
+-- from this shelf on, with these stages left, the call ended so
+abbrev pub Goes : Command → Ended → List Stage → Call → SeenShelf → Type 0
+Goes command end [] call shelf = Stops (λ status. status ≡ statuses.NoMemory) shelf end ⊎ Writes (IsText command call) shelf end
+Goes command end (load word limit ∷ stages) call shelf =
+    (StopsAtLoad call.words word limit shelf end.shelf end.status × (end.after ≡ end.before))
+    ⊎ ((bytes : List ℕ) × (next : SeenShelf) × Loads call.words word limit shelf next bytes × Goes command end stages (with_read word bytes call) next)
+Goes command end (bound kind word most ∷ stages) call shelf =
+    Stops (IsAbove call.words kind word most) shelf end ⊎ ((number_at call.words word ≤ most) × Goes command end stages call shelf)
+Goes command end (test what ∷ stages) call shelf =
+    Stops (OrMemory (Refuses what call)) shelf end ⊎ (Passes what call × Goes command end stages call shelf)
 
--- they are the canonical text of some such tree
-abbrev pub AcceptsSome : Option (List ℕ) → Type 0
-AcceptsSome program = (tree : PlainTree) × Accepts program tree
+-- a call of this command with these words did so: to the shelf, to its output, and with this status
+abbrev pub Does : Command → List (List ℕ) → SeenShelf → SeenShelf → Seen → Seen → Status → Type 0
+Does command words shelf shelf' before after status =
+    Goes command (record { shelf = shelf'; before = before; after = after; status = status }) (stages_of command) (begun words) shelf
 
--- the target's bytes, where they are told, are a target with these costs
-pub record GivesCosts (target : Option (List ℕ)) (costs : Costs) : Type 0 where
-  pub ranges : CostsInRange costs
-  pub text : IfSome target (λ bytes. IsTarget bytes costs)
+-- the status of a body that ended so
+abbrev pub status_of : {T : Type 0} → Result T Status → Status
+status_of (Ok done) = statuses.Ok
+status_of (Err status) = status
 
--- they have this fault
-abbrev pub HasFault : Option (List ℕ) → TargetFail → Type 0
-HasFault target fails.NoMemory = ⊥
-HasFault target fail = IfSome target (λ bytes. Says bytes (Err fail))
-
--- the frames of a hyperperiod ask for so many cycles
-pub record Demands (tree : PlainTree) (costs : Costs) (cycles hyper : ℕ) : Type 0 where
-  pub plans : List Plan
-  pub whole : AreWholePlans (set_of tree) costs plans
-  pub period : IsHyperperiod plans hyper
-  pub cycles_of : cycles ≡ demand plans hyper
-
--- the bytes of the image of the tree's set
-abbrev pub image_bytes : PlainTree → Costs → List ℕ
-image_bytes tree costs = written (set_of tree) costs
-
--- the program and the target are accepted, and the demand fits the hyperperiod
-pub record Compiles (program target : Option (List ℕ)) (tree : PlainTree) (costs : Costs) : Type 0 where
-  pub accepts : Accepts program tree
-  pub gives : GivesCosts target costs
-  pub cycles : ℕ
-  pub hyper : ℕ
-  pub demands : Demands tree costs cycles hyper
-  pub fits : cycles ≤ hyper
-
--- the same, but the demand is above the hyperperiod
-pub record Overloads (program target : Option (List ℕ)) (cycles hyper : ℕ) : Type 0 where
-  pub tree : PlainTree
-  pub accepts : Accepts program tree
-  pub costs : Costs
-  pub gives : GivesCosts target costs
-  pub demands : Demands tree costs cycles hyper
-  pub above : hyper < cycles
-
--- no plain tree, whose names are names and whose numbers fit 64 bits, has the program's bytes, where they are told, as its canonical text
-abbrev pub HasNoPlainText : Option (List ℕ) → Type 0
-HasNoPlainText program = (tree : PlainTree) → IsPlain tree → IsWritable tree → IfSome program (λ bytes. bytes ≢ text_of tree)
-
--- when a call gives this status, for the bytes of its files where they are told, what out took whole, and what it took in part
-abbrev pub Answers : Option (List ℕ) → Option (List ℕ) → (List ℕ → Type 0) → (List ℕ → Type 0) → Status → Type 0
-Answers program target TookAll TookSome statuses.Ok = (tree : PlainTree) × (costs : Costs) × Compiles program target tree costs × TookAll (image_bytes tree costs)
-Answers program target TookAll TookSome (statuses.Overload cycles hyper) = Overloads program target cycles hyper
-Answers program target TookAll TookSome (statuses.Limit (limits.Bytes word limit)) =
-    ((word ≡ 1) × IfSome program (λ bytes. limit < length bytes)) ⊎ ((word ≡ 2) × IfSome target (λ bytes. limit < length bytes))
-Answers program target TookAll TookSome statuses.WriteFault = (tree : PlainTree) × (costs : Costs) × Compiles program target tree costs × TookSome (image_bytes tree costs)
-Answers program target TookAll TookSome (statuses.Target fail) = AcceptsSome program × HasFault target fail
-Answers program target TookAll TookSome (statuses.Beyond word) = (word ≡ 1) × HasNoPlainText program
-Answers program target TookAll TookSome _ = Unit {0}
-
--- whether a call with this status puts something into out
+-- whether a call with this status may have put something
 abbrev pub writes : Status → Bool
 writes statuses.Ok = true
 writes statuses.WriteFault = true
 writes _ = false
 
--- `compile` ends with this status before it puts anything into out
-pub record Refuses (program target : List ℕ) (told : List ℕ → Option (List ℕ)) (old new : List Load) (status : Status) : Type 0 where
-  pub added : List Load
-  pub loads : AreLoads program target status added
-  pub adds : AddsLoads added old new
-  pub order : SecondAfter (AcceptsSome (told program)) added
-  pub cause : Answers (told program) (told target) (λ text. ⊥) (λ text. ⊥) status
+-- ---- completeness
 
--- the loaded program isn't accepted: it is the canonical text of no plain tree, or there is no memory
-abbrev pub IsTextRefusal : Option (List ℕ) → Status → Type 0
-IsTextRefusal program status = (status ≡ statuses.NoMemory) ⊎ ((status ≡ statuses.Beyond 1) × HasNoPlainText program)
+-- with the bytes that are told under the words, this is the status of the first stage that has a cause to stop the call, or Ok where none has
+abbrev pub Decides : (List ℕ → Option (List ℕ)) → List Stage → Call → Status → Type 0
+Decides told [] call status = status ≡ statuses.Ok
+Decides told (load word limit ∷ stages) call status =
+    MatchOption (told (word_at call.words word)) ⊥ (λ bytes.
+    ((limit < length bytes) × (status ≡ statuses.Limit (limits.Bytes word limit)))
+    ⊎ ((length bytes ≤ limit) × Decides told stages (with_read word bytes call) status))
+Decides told (bound kind word most ∷ stages) call status =
+    IsAbove call.words kind word most status ⊎ ((number_at call.words word ≤ most) × Decides told stages call status)
+Decides told (test what ∷ stages) call status =
+    Refuses what call status ⊎ (((other : Status) → Refuses what call other → ⊥) × Decides told stages call status)
 
--- one load gives no bytes, with this status of its word
-abbrev pub IsLoadRefusal : List ℕ → ℕ → ℕ → (List ℕ → Option (List ℕ)) → List Load → List Load → Status → Type 0
-IsLoadRefusal name word limit told old new (statuses.ReadFault w) = (w ≡ word) × AddsLoads (load_of name limit Fault ∷ []) old new
-IsLoadRefusal name word limit told old new (statuses.Limit (limits.Bytes w l)) =
-    (w ≡ word) × (l ≡ limit) × AddsLoads (load_of name limit TooLong ∷ []) old new × IfSome (told name) (λ bytes. limit < length bytes)
-IsLoadRefusal name word limit told old new statuses.NoMemory = AddsLoads [] old new
-IsLoadRefusal name word limit told old new _ = ⊥
+-- the words and the told bytes decide this status for the command
+abbrev pub IsDecided : Command → (List ℕ → Option (List ℕ)) → List (List ℕ) → Status → Type 0
+IsDecided command told words status = Decides told (stages_of command) (begun words) status
 
--- the loaded target isn't accepted: it has a fault, or there is no memory
-abbrev pub IsTargetRefusal : Option (List ℕ) → Status → Type 0
-IsTargetRefusal target status = (status ≡ statuses.NoMemory) ⊎ ((fail : TargetFail) × (status ≡ statuses.Target fail) × HasFault target fail)
-
--- the target gives no costs, with this status: it can't be loaded, or it isn't accepted
-abbrev pub RefusesTarget : List ℕ → (List ℕ → Option (List ℕ)) → List Load → List Load → Status → Type 0
-RefusesTarget target told old new status =
-    IsLoadRefusal target 2 target_limit told old new status ⊎ (AddsLoads (target_load target Done ∷ []) old new × IsTargetRefusal (told target) status)
-
--- the frames ask for more cycles than their period has
-abbrev pub IsOverload : PlainTree → Costs → Status → Type 0
-IsOverload tree costs status = (status ≡ statuses.Overload (frame_ticks costs tree) tree.period) × (tree.period < frame_ticks costs tree)
-
--- why an accepted tree has no image for a target that is accepted too
-abbrev pub IsLateRefusal : PlainTree → Costs → Status → Type 0
-IsLateRefusal tree costs status = IsOverload tree costs status ⊎ (status ≡ statuses.NoMemory)
+-- a call ended with the status that was decided; or memory ran out, a file couldn't be read, or the output had a fault while the text was put
+abbrev pub Agrees : Status → Status → Type 0
+Agrees decided status =
+    (status ≡ decided) ⊎ ((status ≡ statuses.NoMemory) ⊎ (((word : ℕ) × (status ≡ statuses.ReadFault word)) ⊎ ((decided ≡ statuses.Ok) × (status ≡ statuses.WriteFault))))

@@ -1,5 +1,5 @@
 -- Worked examples.
-use Rattle.std.specs.Prelude.{pos, [], ◌∷◌, codes}
+use Rattle.std.specs.Prelude.{ℕ, List, pos, [], ◌∷◌, ◌++◌, codes}
 use Rattle.tcel_num.specs.declared.op.Op.TheVariants as ops
 use Rattle.tcel_num.specs.Plan.{Plan, frame}
 use Rattle.tcel_tool.specs.declared.plain_tree.PlainTree.{PlainTree}
@@ -26,3 +26,9 @@ echo_tree =
 -- its plan where each cost is another: 15 ticks for the start, 12, 15 and 12 cycles for the statements, 14 for the mark and 16 for the end
 abbrev pub dispatched_plan : Plan
 dispatched_plan = record { period = 10; total = 84; points = record { prefix = 68; bound = 10; name = frame } ∷ [] }
+
+-- its canonical text
+abbrev pub echo_text : List ℕ
+echo_text =
+    codes "task t priority 1 {\n" ++ codes "  input s;\n  output o;\n  state int n;\n  local int x;\n"
+    ++ codes "  every 10 {\n    receive x from s;\n    send x to o;\n    n := n + 1;\n  }\n}\n"

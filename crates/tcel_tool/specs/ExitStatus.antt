@@ -6,6 +6,7 @@ use Rattle.tcel_tool.specs.declared.status.Status.TheVariants as statuses
 abbrev pub exit_status : Status → ℕ
 exit_status statuses.Ok = 0
 exit_status (statuses.Overload cycles hyper) = 1
+exit_status (statuses.Program kind at) = 2
 exit_status (statuses.Limit fault) = 3
 exit_status statuses.Words = 4
 exit_status (statuses.ReadFault word) = 5

@@ -1,7 +1,7 @@
 -- The line that tells a refusal, in the pieces in which it is put: the texts, and the words and numbers between them.
-use Rattle.std.specs.Prelude.{ℕ, List, [], ◌∷◌, slice_index_or, codes}
-use Rattle.std.specs.List.{concat}
+use Rattle.std.specs.Prelude.{ℕ, List, [], ◌∷◌, codes}
 use Rattle.std.specs.Fmt.{decimal}
+use Rattle.tcel_num.specs.declared.at.At.{At}
 use Rattle.tcel_image.specs.declared.fault.ImageFail.{ImageFail}
 use Rattle.tcel_image.specs.declared.fault.ImageFail.TheVariants as fails
 use Rattle.tcel_image.specs.declared.flaw.Flaw.{Flaw}
@@ -17,14 +17,26 @@ use Rattle.tcel_tool.specs.declared.status.Status.TheVariants as statuses
 use Rattle.tcel_tool.specs.declared.status.LimitFault.{LimitFault}
 use Rattle.tcel_tool.specs.declared.status.LimitFault.TheVariants as limits
 use Rattle.tcel_tool.specs.declared.status.CountKind.TheVariants.{Ticks}
-
--- the word of this number, or the empty text where there is none
-abbrev pub word_at : List (List ℕ) → ℕ → List ℕ
-word_at words word = slice_index_or words word []
+use Rattle.tcel_tool.specs.declared.status.ProgramKind.{ProgramKind}
+use Rattle.tcel_tool.specs.declared.status.ProgramKind.TheVariants as kinds
+use Rattle.tcel_tool.specs.CommandLine.{word_at}
 
 abbrev pub limit_pieces : List (List ℕ) → LimitFault → List (List ℕ)
 limit_pieces words (limits.Bytes word limit) = codes "limit: bytes of " ∷ word_at words word ∷ codes " above " ∷ decimal limit ∷ codes "\n" ∷ []
 limit_pieces words (limits.Count Ticks value) = codes "limit: ticks " ∷ decimal value ∷ codes " above 10000000\n" ∷ []
+limit_pieces words (limits.Nesting at) = codes "limit: nesting above 32 at " ∷ decimal at.line ∷ codes ":" ∷ decimal at.column ∷ codes "\n" ∷ []
+limit_pieces words (limits.Operators at) = codes "limit: operators above 64 at " ∷ decimal at.line ∷ codes ":" ∷ decimal at.column ∷ codes "\n" ∷ []
+
+-- what goes wrong in a program
+abbrev pub program_text : ProgramKind → List ℕ
+program_text kinds.BadByte = codes "bad byte"
+program_text kinds.BadNumber = codes "bad number"
+program_text kinds.NameTooLong = codes "name too long"
+program_text kinds.Unexpected = codes "unexpected token"
+
+-- and where
+abbrev pub program_pieces : ProgramKind → At → List (List ℕ)
+program_pieces kind at = codes "program " ∷ decimal at.line ∷ codes ":" ∷ decimal at.column ∷ codes ": " ∷ program_text kind ∷ codes "\n" ∷ []
 
 -- the fault of bytes that spell no image
 abbrev pub image_pieces : ImageFail → List (List ℕ)
@@ -67,6 +79,7 @@ abbrev pub fault_pieces : List (List ℕ) → Status → List (List ℕ)
 fault_pieces words statuses.Ok = []
 fault_pieces words (statuses.Overload demand hyper) =
     codes "rejected: overload demand " ∷ decimal demand ∷ codes " hyperperiod " ∷ decimal hyper ∷ codes "\n" ∷ []
+fault_pieces words (statuses.Program kind at) = program_pieces kind at
 fault_pieces words (statuses.Limit fault) = limit_pieces words fault
 fault_pieces words statuses.Words = codes "words: no command has this form\n" ∷ []
 fault_pieces words (statuses.ReadFault word) = codes "read fault: " ∷ word_at words word ∷ codes "\n" ∷ []
@@ -77,7 +90,3 @@ fault_pieces words (statuses.Image fail) = image_pieces fail
 fault_pieces words (statuses.Flaw flaw) = flaw_pieces flaw
 fault_pieces words (statuses.Script fail) = script_pieces fail
 fault_pieces words (statuses.Beyond word) = codes "beyond: " ∷ word_at words word ∷ codes "\n" ∷ []
-
--- the whole line, and nothing after Ok
-abbrev pub fault_line : List (List ℕ) → Status → List ℕ
-fault_line words status = concat (fault_pieces words status)

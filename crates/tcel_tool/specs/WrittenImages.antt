@@ -1,5 +1,5 @@
 -- What `run` makes of an image that `compile` wrote.
-use Rattle.std.specs.Prelude.{◌≡◌, ℕ, List, Some, Ok}
+use Rattle.std.specs.Prelude.{◌≡◌, ℕ, List, Ok}
 use Rattle.tcel_core.specs.Language.{Task}
 use Rattle.tcel_core.specs.Meets.{Meets}
 use Rattle.tcel_target.specs.declared.costs.Costs.{Costs}
@@ -9,7 +9,7 @@ use Rattle.tcel_image.specs.Reading.{reading}
 use Rattle.tcel_image.specs.Validity.{IsValid}
 use Rattle.tcel_tool.specs.Headline.{KeepsItsPromise}
 use Rattle.tcel_code.specs.Layout.{image_of, written}
-use Rattle.tcel_tool.specs.RunAnswer.{Runs}
+use Rattle.tcel_tool.specs.RunCommand.{Runs}
 
 -- `run` reads written bytes as the image that was written, and finds no flaw in it
 abbrev pub WrittenImagesAreTaken : Type 0
@@ -20,4 +20,4 @@ WrittenImagesAreTaken =
 abbrev pub RunsOfWrittenImagesMeet : Type 0
 RunsOfWrittenImagesMeet =
     (set : List Task) (costs : Costs) (kept : KeepsItsPromise set costs) (script : List ℕ) (given : Image) (streams : Streams) (ticks : ℕ) →
-    Runs (Some (written set costs)) (Some script) given streams → Meets set kept.plans streams ticks (trace given streams ticks)
+    Runs (written set costs) script given streams → Meets set kept.plans streams ticks (trace given streams ticks)

@@ -4,8 +4,14 @@ ghost use Rattle.tcel_cost.specs.Examples.{many_costs};
 ghost use Rattle.tcel_cost.specs.WholePlan.{AreWholePlans};
 ghost use Rattle.tcel_image.specs.Examples.{echo};
 ghost use Rattle.tcel_code.specs.Layout.{image_of};
+ghost use Rattle.std.specs.List.{concat};
+ghost use Rattle.tcel_tool.specs.Answer.{IsDecided};
 ghost use Rattle.tcel_tool.specs.CanonicalText.{text_of};
-ghost use Rattle.tcel_tool.specs.Examples.{dispatched_plan, echo_tree};
+ghost use Rattle.tcel_tool.specs.CommandExamples.{compile_line, format_line, nothing_told, run_line, too_deep, too_many, unexpected};
+ghost use Rattle.tcel_tool.specs.Commands.{HasForm, HaveNoForm};
+ghost use Rattle.tcel_tool.specs.FaultLine.{fault_pieces};
+ghost use Rattle.tcel_tool.specs.declared.command.Command.TheVariants.{Compile, Format, Run};
+ghost use Rattle.tcel_tool.specs.Examples.{dispatched_plan, echo_text, echo_tree};
 ghost use Rattle.tcel_tool.specs.PlainTree.{IsPlain, IsWritable, set_of};
 
 /// The image of a program (docs/machine.md).
@@ -21,10 +27,30 @@ pub fn plain_examples()
 
 /// The canonical text of a program (docs/language.md).
 pub fn text_examples()
-    ensures echo { text_of echo_tree ≡ codes "task t priority 1 {\n  input s;\n  output o;\n  state int n;\n  local int x;\n  every 10 {\n    receive x from s;\n    send x to o;\n    n := n + 1;\n  }\n}\n" }
+    ensures echo { text_of echo_tree ≡ echo_text }
 {}
 
 /// The plan of a plain program, on a processor where each cost is another (docs/commands.md, "Plain programs").
 pub fn plan_example()
     ensures plan { AreWholePlans (set_of echo_tree) many_costs (dispatched_plan ∷ []) }
+{}
+
+/// Words that are a command's and words that are none, a status that the words alone decide, and fault lines (docs/commands.md).
+pub fn command_examples()
+    ensures compile { HasForm Compile compile_line }
+    ensures format { HasForm Format format_line }
+    ensures run { HasForm Run (run_line (codes "0010")) }
+    ensures other_command { HasForm Compile format_line → ⊥ }
+    ensures eighteen_digits { HasForm Run (run_line (codes "999999999999999999")) }
+    ensures nineteen_digits { HaveNoForm (run_line (codes "1000000000000000000")) }
+    ensures no_digits { HaveNoForm (run_line []) }
+    ensures sign { HaveNoForm (run_line (codes "+1")) }
+    ensures few_words { HaveNoForm (codes "compile" ∷ codes "a" ∷ []) }
+    ensures many_words { HaveNoForm (codes "format" ∷ codes "a" ∷ codes "b" ∷ []) }
+    ensures option { HaveNoForm (codes "--help" ∷ []) }
+    ensures no_words { HaveNoForm [] }
+    ensures most_ticks { IsDecided Run nothing_told (run_line (codes "10000000")) too_many → ⊥ }
+    ensures too_many_ticks { IsDecided Run nothing_told (run_line (codes "10000001")) too_many }
+    ensures line { concat (fault_pieces format_line unexpected) ≡ codes "program 1:38: unexpected token\n" }
+    ensures deep { concat (fault_pieces format_line too_deep) ≡ codes "limit: operators above 64 at 12:304\n" }
 {}

@@ -1,18 +1,21 @@
-ghost use Rattle.std.specs.Prelude.{◌≡◌, [], ◌∷◌, map, string_bytes};
+ghost use Rattle.std.specs.Prelude.{◌≡◌, [], ◌∷◌, codes, map, string_bytes};
 ghost use Rattle.std.specs.Fmt.{decimal};
-ghost use Rattle.tcel_io.specs.InTurn.{ArePut, seen};
-ghost use Rattle.tcel_tool.specs.FaultLine.{fault_pieces, flaw_pieces, flaw_text, image_pieces, limit_pieces, script_pieces, target_pieces, word_at};
+ghost use Rattle.tcel_io.specs.InTurn.{ArePut};
+ghost use Rattle.tcel_tool.specs.FaultLine.{fault_pieces, flaw_pieces, flaw_text, image_pieces, limit_pieces};
+ghost use Rattle.tcel_tool.specs.FaultLine.{program_pieces, program_text, script_pieces, target_pieces};
 
-use crate::status::{CountKind, LimitFault, Status};
+use crate::stages::word_at;
+use crate::status::{CountKind, LimitFault, ProgramKind, Status};
 use itoa::Buffer;
 use tcel_image::{Flaw, FlawKind, ImageFail};
 use tcel_io::Sink;
+use tcel_num::At;
 use tcel_script::ScriptFail;
 use tcel_target::TargetFail;
 
 /// Puts the fault line of the status (docs/commands.md), in pieces: the texts between words and numbers, and these. After a fault nothing more is put.
 pub(crate) fn put_fault_line<K: Sink>(words: &[String], status: &Status, err: &mut K)
-    ensures { ArePut (fault_pieces (map string_bytes words.now) status.now) (seen (K.taken err.old) (K.faults err.old) (K.puts err.old)) (seen (K.taken err.new) (K.faults err.new) (K.puts err.new)) }
+    ensures { ArePut (fault_pieces (map string_bytes words.now) status.now) (K.seen err.old) (K.seen err.new) }
 {
     match status {
         Status::Ok => put_all(&[], err),
@@ -26,10 +29,11 @@ pub(crate) fn put_fault_line<K: Sink>(words: &[String], status: &Status, err: &m
             ],
             err,
         ),
+        Status::Program { kind, at } => put_program(*kind, *at, err),
         Status::Limit(fault) => put_limit(words, *fault, err),
         Status::Words => put_all(&[b"words: no command has this form\n"], err),
         Status::ReadFault { word } => put_all(
-            &[b"read fault: ", word_at(words, *word), b"\n"],
+            &[b"read fault: ", word_at(words, *word).as_bytes(), b"\n"],
             err,
         ),
         Status::WriteFault => put_all(&[b"write fault\n"], err),
@@ -38,18 +42,21 @@ pub(crate) fn put_fault_line<K: Sink>(words: &[String], status: &Status, err: &m
         Status::Image(fail) => put_image_fail(*fail, err),
         Status::Flaw(flaw) => put_flaw(*flaw, err),
         Status::Script(fail) => put_script_fail(*fail, err),
-        Status::Beyond { word } => put_all(&[b"beyond: ", word_at(words, *word), b"\n"], err),
+        Status::Beyond { word } => put_all(
+            &[b"beyond: ", word_at(words, *word).as_bytes(), b"\n"],
+            err,
+        ),
     }
 }
 
 fn put_limit<K: Sink>(words: &[String], fault: LimitFault, err: &mut K)
-    ensures { ArePut (limit_pieces (map string_bytes words.now) fault) (seen (K.taken err.old) (K.faults err.old) (K.puts err.old)) (seen (K.taken err.new) (K.faults err.new) (K.puts err.new)) }
+    ensures { ArePut (limit_pieces (map string_bytes words.now) fault) (K.seen err.old) (K.seen err.new) }
 {
     match fault {
         LimitFault::Bytes { word, limit } => put_all(
             &[
                 b"limit: bytes of ",
-                word_at(words, word),
+                word_at(words, word).as_bytes(),
                 b" above ",
                 Buffer::new().format(limit).as_bytes(),
                 b"\n",
@@ -60,12 +67,58 @@ fn put_limit<K: Sink>(words: &[String], fault: LimitFault, err: &mut K)
             kind: CountKind::Ticks,
             value,
         } => put_number(b"limit: ticks ", value, b" above 10000000\n", err),
+        LimitFault::Nesting { at } => put_place(b"limit: nesting above 32 at ", at, err),
+        LimitFault::Operators { at } => put_place(b"limit: operators above 64 at ", at, err),
+    }
+}
+
+/// Puts a place behind a text.
+fn put_place<K: Sink>(before: &[u8], at: At, err: &mut K)
+    ensures { ArePut (before.now ∷ decimal at.line ∷ codes ":" ∷ decimal at.column ∷ codes "\n" ∷ []) (K.seen err.old) (K.seen err.new) }
+{
+    put_all(
+        &[
+            before,
+            Buffer::new().format(at.line).as_bytes(),
+            b":",
+            Buffer::new().format(at.column).as_bytes(),
+            b"\n",
+        ],
+        err,
+    )
+}
+
+fn put_program<K: Sink>(kind: ProgramKind, at: At, err: &mut K)
+    ensures { ArePut (program_pieces kind at) (K.seen err.old) (K.seen err.new) }
+{
+    put_all(
+        &[
+            b"program ",
+            Buffer::new().format(at.line).as_bytes(),
+            b":",
+            Buffer::new().format(at.column).as_bytes(),
+            b": ",
+            program_text(kind),
+            b"\n",
+        ],
+        err,
+    )
+}
+
+fn program_text(kind: ProgramKind) -> &'static [u8]
+    ensures { result.now ≡ program_text kind }
+{
+    match kind {
+        ProgramKind::BadByte => b"bad byte",
+        ProgramKind::BadNumber => b"bad number",
+        ProgramKind::NameTooLong => b"name too long",
+        ProgramKind::Unexpected => b"unexpected token",
     }
 }
 
 /// Puts a number between two texts.
 fn put_number<K: Sink>(before: &[u8], number: u64, after: &[u8], err: &mut K)
-    ensures { ArePut (before.now ∷ decimal number ∷ after.now ∷ []) (seen (K.taken err.old) (K.faults err.old) (K.puts err.old)) (seen (K.taken err.new) (K.faults err.new) (K.puts err.new)) }
+    ensures { ArePut (before.now ∷ decimal number ∷ after.now ∷ []) (K.seen err.old) (K.seen err.new) }
 {
     put_all(
         &[before, Buffer::new().format(number).as_bytes(), after],
@@ -74,7 +127,7 @@ fn put_number<K: Sink>(before: &[u8], number: u64, after: &[u8], err: &mut K)
 }
 
 fn put_target_fail<K: Sink>(fail: &TargetFail, err: &mut K)
-    ensures { ArePut (target_pieces fail.now) (seen (K.taken err.old) (K.faults err.old) (K.puts err.old)) (seen (K.taken err.new) (K.faults err.new) (K.puts err.new)) }
+    ensures { ArePut (target_pieces fail.now) (K.seen err.old) (K.seen err.new) }
 {
     match fail {
         TargetFail::NotToml => put_all(&[b"target: not toml\n"], err),
@@ -92,7 +145,7 @@ fn put_target_fail<K: Sink>(fail: &TargetFail, err: &mut K)
 }
 
 fn put_image_fail<K: Sink>(fail: ImageFail, err: &mut K)
-    ensures { ArePut (image_pieces fail) (seen (K.taken err.old) (K.faults err.old) (K.puts err.old)) (seen (K.taken err.new) (K.faults err.new) (K.puts err.new)) }
+    ensures { ArePut (image_pieces fail) (K.seen err.old) (K.seen err.new) }
 {
     match fail {
         ImageFail::BadMagic => put_all(&[b"image: bad magic\n"], err),
@@ -104,7 +157,7 @@ fn put_image_fail<K: Sink>(fail: ImageFail, err: &mut K)
 }
 
 fn put_flaw<K: Sink>(flaw: Flaw, err: &mut K)
-    ensures { ArePut (flaw_pieces flaw) (seen (K.taken err.old) (K.faults err.old) (K.puts err.old)) (seen (K.taken err.new) (K.faults err.new) (K.puts err.new)) }
+    ensures { ArePut (flaw_pieces flaw) (K.seen err.old) (K.seen err.new) }
 {
     put_all(
         &[
@@ -135,7 +188,7 @@ fn flaw_text(kind: FlawKind) -> &'static [u8]
 }
 
 fn put_script_fail<K: Sink>(fail: ScriptFail, err: &mut K)
-    ensures { ArePut (script_pieces fail) (seen (K.taken err.old) (K.faults err.old) (K.puts err.old)) (seen (K.taken err.new) (K.faults err.new) (K.puts err.new)) }
+    ensures { ArePut (script_pieces fail) (K.seen err.old) (K.seen err.new) }
 {
     match fail {
         ScriptFail::BadLine { line } => put_number(
@@ -156,19 +209,9 @@ fn put_script_fail<K: Sink>(fail: ScriptFail, err: &mut K)
     }
 }
 
-/// The word of this number, or nothing where there is none.
-fn word_at(words: &[String], word: usize) -> &[u8]
-    ensures { result.now ≡ word_at (map string_bytes words.now) word }
-{
-    match words.get(word) {
-        Some(word) => word.as_bytes(),
-        None => b"",
-    }
-}
-
 /// Puts the pieces up to the first fault.
 fn put_all<K: Sink>(pieces: &[&[u8]], sink: &mut K)
-    ensures { ArePut (map (λ piece. piece.now) pieces.now) (seen (K.taken sink.old) (K.faults sink.old) (K.puts sink.old)) (seen (K.taken sink.new) (K.faults sink.new) (K.puts sink.new)) }
+    ensures { ArePut (map (λ piece. piece.now) pieces.now) (K.seen sink.old) (K.seen sink.new) }
 {
     let Some((first, rest)) = pieces.split_first() else {
         return;

@@ -5,7 +5,9 @@ ghost use Rattle.tcel_target.specs.Costs.{CostsInRange};
 ghost use Rattle.tcel_image.specs.Spelling.{InRange};
 ghost use Rattle.tcel_code.specs.Code.{at, expr_code, act_code, whole_code};
 ghost use Rattle.tcel_code.specs.Layout.{image_of, image_task, states_of, state_of};
-ghost use Rattle.tcel_tool.specs.PlainTree.{IsPlain, IsWritable, StmtIsPlain, ExprIsPlain, OperandIsPlain, set_of, task_of, vars_of, var_of, variable_names, names_of, index_of, operand_of, expr_of, act_of, block_from};
+ghost use Rattle.tcel_tool.specs.PlainTree.{IsPlain, IsWritable, StmtIsPlain, ExprIsPlain, OperandIsPlain, set_of};
+ghost use Rattle.tcel_tool.specs.PlainTree.{task_of, vars_of, var_of, variable_names, names_of, index_of, operand_of};
+ghost use Rattle.tcel_tool.specs.PlainTree.{expr_of, act_of, block_from};
 
 use crate::names::{count_of, names_of, position_of, variable_position};
 use crate::plain_tree::{Operand, PlainDecl, PlainExpr, PlainKind, PlainStmt, PlainTree};

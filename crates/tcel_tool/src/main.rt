@@ -11,10 +11,14 @@ use tcel_num::NoMemory;
 use tool::tcel;
 
 mod canonical;
+mod command;
 mod compile;
 mod cursor;
 mod examples;
 mod fault_line;
+mod format;
+#[cfg(test)]
+mod format_tests;
 mod generate;
 mod headline;
 mod names;
@@ -23,10 +27,10 @@ mod plain_tree;
 mod plan;
 mod read;
 mod run;
+mod stages;
 mod status;
 #[cfg(test)]
 mod tests;
-mod ticks;
 mod tool;
 
 fn main(rt: HostRuntime) -> ExitCode {

@@ -20,7 +20,8 @@ pub(crate) fn is_plain(tree: &PlainTree) -> bool
 }
 
 fn is_within_limits(tree: &PlainTree) -> bool
-    ensures { IsTrue result ↔ (IsInRange 1 1000 tree.now.priority × IsInRange 1 10000000 tree.now.period × (length tree.now.decls ≤ 256) × (length tree.now.body ≤ 1000)) }
+    ensures { IsTrue result ↔ (IsInRange 1 1000 tree.now.priority × IsInRange 1 10000000 tree.now.period
+        × (length tree.now.decls ≤ 256) × (length tree.now.body ≤ 1000)) }
 {
     is_between(tree.priority, 1000)
         && is_between(tree.period, 10_000_000)

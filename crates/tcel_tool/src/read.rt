@@ -2,7 +2,9 @@ ghost use Rattle.std.specs.Prelude.{◌≡◌, ◌≤◌, ℕ, List, length, IfE
 ghost use Rattle.tcel_tool.specs.CanonicalText.{text_of};
 ghost use Rattle.tcel_tool.specs.PlainTree.{IsPlain, IsWritable};
 ghost use Rattle.tcel_tool.specs.declared.plain_tree.PlainTree.{PlainTree};
-ghost use Rattle.tcel_tool.specs.Reading.{Gives, ReadsAll, decl_at, expr_at, head_at, kind_at, op_of, operand_at, operand_of, number_operand, period_at, signed_of, stmt_at, receive_at, send_at, assign_at, two_at};
+ghost use Rattle.tcel_tool.specs.Reading.{Gives, ReadsAll, decl_at, expr_at, head_at, kind_at, op_of, operand_at};
+ghost use Rattle.tcel_tool.specs.Reading.{operand_of, number_operand, period_at, signed_of, stmt_at, receive_at};
+ghost use Rattle.tcel_tool.specs.Reading.{send_at, assign_at, two_at};
 ghost use Rattle.tcel_tool.specs.Words.{words_of};
 
 use crate::cursor::{Cursor, name_of, number_of};

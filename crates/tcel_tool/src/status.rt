@@ -1,9 +1,10 @@
 ghost use Rattle.std.specs.Prelude.{◌≡◌};
 ghost use Rattle.tcel_tool.specs.ExitStatus.{exit_status};
-ghost use Rattle.tcel_tool.specs.declared.status.Status.TheVariants.{NoMemory as memory};
+ghost use Rattle.tcel_tool.specs.declared.status.Status.TheVariants.{NoMemory as memory, WriteFault as write_fault};
 
 use tcel_image::{Flaw, ImageFail};
-use tcel_num::NoMemory;
+use tcel_io::SinkFault;
+use tcel_num::{At, NoMemory};
 use tcel_script::ScriptFail;
 use tcel_target::TargetFail;
 
@@ -13,6 +14,8 @@ pub enum Status {
     Ok,
     /// The frames that are released in `hyper` ticks ask for `demand` cycles, which is more.
     Overload { demand: u64, hyper: u64 },
+    /// The program's text goes wrong at this place.
+    Program { kind: ProgramKind, at: At },
     Limit(LimitFault),
     /// The words have no form of a command.
     Words,
@@ -33,6 +36,19 @@ pub enum Status {
     Beyond { word: usize },
 }
 
+/// How a program's text goes wrong (docs/language.md).
+#[derive(Clone, Copy, Debug, PartialEq, Eq)]
+pub enum ProgramKind {
+    /// A byte that begins no token.
+    BadByte,
+    /// A number above 9223372036854775807.
+    BadNumber,
+    /// A name of more than 32 bytes.
+    NameTooLong,
+    /// The first token such that no program begins with the tokens up to it, or the text's end.
+    Unexpected,
+}
+
 /// A limit that is passed.
 #[derive(Clone, Copy, Debug, PartialEq, Eq)]
 pub enum LimitFault {
@@ -40,6 +56,10 @@ pub enum LimitFault {
     Bytes { word: usize, limit: usize },
     /// A number on the command line is above the greatest one allowed.
     Count { kind: CountKind, value: u64 },
+    /// The 33rd unclosed bracket of a program is here.
+    Nesting { at: At },
+    /// The 65th operator of an outermost expression is here.
+    Operators { at: At },
 }
 
 /// What a number on the command line counts.
@@ -56,6 +76,7 @@ impl Status {
         match self {
             Status::Ok => 0,
             Status::Overload { .. } => 1,
+            Status::Program { .. } => 2,
             Status::Limit(_) => 3,
             Status::Words => 4,
             Status::ReadFault { .. } => 5,
@@ -74,5 +95,13 @@ impl From<NoMemory> for Status {
 
     fn from(_error: NoMemory) -> Status {
         Status::NoMemory
+    }
+}
+
+impl From<SinkFault> for Status {
+    ghost from_gives = { λ _ status. status ≡ write_fault };
+
+    fn from(_error: SinkFault) -> Status {
+        Status::WriteFault
     }
 }

@@ -6,7 +6,7 @@ use std::test::Fail;
 use tcel_io::{MemFile, MemShelf, MemSink, PutFail};
 use tcel_target::TargetFail;
 
-const ECHO: &[u8] =
+pub(crate) const ECHO: &[u8] =
     b"task t priority 1 {\n  input s;\n  output o;\n  state int n;\n  local int x;\n  every 10 {\n    receive x from s;\n    send x to o;\n    n := n + 1;\n  }\n}\n";
 
 const UNIT: &[u8] =
@@ -44,22 +44,22 @@ const ECHO_IMAGE: [&[u8]; 26] = [
 
 /// What a call leaves.
 #[derive(Drop)]
-struct Left {
-    status: Status,
-    out: MemSink,
-    err: MemSink,
+pub(crate) struct Left {
+    pub(crate) status: Status,
+    pub(crate) out: MemSink,
+    pub(crate) err: MemSink,
 }
 
 /// The room of the sinks, their puts that fail, and the load that fails.
 #[derive(Drop)]
-struct Fails {
-    room: usize,
-    out: Option<PutFail>,
-    err: Option<PutFail>,
-    load: Option<u64>,
+pub(crate) struct Fails {
+    pub(crate) room: usize,
+    pub(crate) out: Option<PutFail>,
+    pub(crate) err: Option<PutFail>,
+    pub(crate) load: Option<u64>,
 }
 
-const NONE: Fails = Fails {
+pub(crate) const NONE: Fails = Fails {
     room: 1000,
     out: None,
     err: None,
@@ -77,7 +77,7 @@ fn sink(alloc: Global, room: usize, fail: Option<PutFail>) -> Result<MemSink, Fa
 }
 
 /// Runs the words over the files `p` and `t`.
-fn run(
+pub(crate) fn run(
     alloc: Global,
     words: &[&str],
     (program, target): (&[u8], &[u8]),

@@ -1,23 +1,19 @@
-ghost use Rattle.std.specs.Prelude.{◌≡◌, ◌↔◌, ◌⊎◌, ℕ, List, map, length, string_bytes, IsTrue, IfSome, Some};
-ghost use Rattle.std.specs.List.{concat};
-ghost use Rattle.tcel_io.specs.Count.{Rose, PutsAtMost};
-ghost use Rattle.tcel_io.specs.InTurn.{AreTaken, AreCutOff, ArePut, seen};
-ghost use Rattle.tcel_io.specs.Load.{AddsLoads, Load};
-ghost use Rattle.tcel_io.specs.Reach.{ReachesWithin};
-ghost use Rattle.tcel_io.specs.Taken.{Takes, TakesPrefix};
-ghost use Rattle.tcel_target.specs.declared.costs.Costs.{Costs};
-ghost use Rattle.tcel_tool.specs.Answer.{Answers, Accepts, AcceptsSome, AreLoads, GivesCosts, IsCompile, SecondAfter, image_bytes, writes};
-ghost use Rattle.tcel_tool.specs.FaultLine.{fault_line, fault_pieces, word_at};
-ghost use Rattle.tcel_tool.specs.Headline.{KeepsItsPromise};
-ghost use Rattle.tcel_tool.specs.PlainTree.{set_of};
-ghost use Rattle.tcel_tool.specs.RunAnswer.{AreRunLoads, HaveNoForm, IsRun, LoadedFirst, RunAnswers};
-ghost use Rattle.tcel_tool.specs.declared.plain_tree.PlainTree.{PlainTree};
+ghost use Rattle.std.specs.Prelude.{◌≡◌, ◌↔◌, ◌⊎◌, IsTrue, map, string_bytes};
+ghost use Rattle.tcel_io.specs.InTurn.{ArePut};
+ghost use Rattle.tcel_tool.specs.Answer.{Agrees, Does, IsDecided, status_of, writes};
+ghost use Rattle.tcel_tool.specs.Commands.{HasForm, HaveNoForm};
+ghost use Rattle.tcel_tool.specs.CommandLine.{word_at};
+ghost use Rattle.tcel_tool.specs.CompileCommand.{IsCompiled};
+ghost use Rattle.tcel_tool.specs.FaultLine.{fault_pieces};
+ghost use Rattle.tcel_tool.specs.declared.command.Command.{Command};
+ghost use Rattle.tcel_tool.specs.declared.status.Status.{Status};
 
+use crate::command::{Command, command_of};
 use crate::compile::compile;
 use crate::fault_line::put_fault_line;
+use crate::format::format;
 use crate::run::run;
 use crate::status::Status;
-use crate::ticks::ticks_in;
 use std::alloc::Global;
 use tcel_io::{Shelf, Sink};
 
@@ -29,140 +25,64 @@ pub fn tcel<H: Shelf, K: Sink>(
     out: &mut K,
     err: &mut K,
 ) -> Status
+    // Words that are a command's: it went through its stages, up to the first that stopped it, and then put its text.
+    ensures answer { (command : Command) → HasForm command (map string_bytes words.now)
+        → Does command (map string_bytes words.now) (H.seen shelf.old) (H.seen shelf.new) (K.seen out.old) (K.seen out.new) result }
+
+    // Other words: nothing was done.
     ensures words { (result ≡ Status.Words) ↔ HaveNoForm (map string_bytes words.now) }
-    ensures no_loads { result ≡ Status.Words → H.loads shelf.new ≡ H.loads shelf.old }
-
-    // The command `compile`.
-    ensures loads { IsCompile (map string_bytes words.now) → (added : List Load) × AreLoads (word_at (map string_bytes words.now) 1) (word_at (map string_bytes words.now) 2) result added
-        × AddsLoads added (H.loads shelf.old) (H.loads shelf.new) × SecondAfter (AcceptsSome (H.told shelf.old (word_at (map string_bytes words.now) 1))) added }
-    ensures answer { let texts = map string_bytes words.now in IsCompile texts →
-        Answers (H.told shelf.old (word_at texts 1)) (H.told shelf.old (word_at texts 2))
-        (λ text. Takes text (K.taken out.old) (K.taken out.new))
-        (λ text. TakesPrefix text (K.taken out.old) (K.taken out.new)
-        × ReachesWithin text (K.taken out.old) (K.reach out.old) (K.reach out.new)) result }
-
-    // The command `run`.
-    ensures run_loads { let texts = map string_bytes words.now in (ticks : ℕ) → IsRun texts ticks
-        → (added : List Load) × AreRunLoads (word_at texts 1) (word_at texts 2) result added
-        × AddsLoads added (H.loads shelf.old) (H.loads shelf.new) × SecondAfter (LoadedFirst (H.told shelf.old (word_at texts 1))) added }
-    ensures run_answer { let texts = map string_bytes words.now in (ticks : ℕ) → IsRun texts ticks
-        → RunAnswers (H.told shelf.old (word_at texts 1)) (H.told shelf.old (word_at texts 2)) ticks
-        (λ lines. Takes (concat lines) (K.taken out.old) (K.taken out.new)
-        × AreTaken lines (seen (K.taken out.old) (K.faults out.old) (K.puts out.old)) (seen (K.taken out.new) (K.faults out.new) (K.puts out.new)))
-        (λ lines. TakesPrefix (concat lines) (K.taken out.old) (K.taken out.new)
-        × ReachesWithin (concat lines) (K.taken out.old) (K.reach out.old) (K.reach out.new)
-        × AreCutOff lines (seen (K.taken out.old) (K.faults out.old) (K.puts out.old)) (seen (K.taken out.new) (K.faults out.new) (K.puts out.new))) result }
-
-    // After Ok of `compile`, out took the image of the program's set, which has a spelling and is valid, and every run of it meets the set.
-    ensures headline { IsCompile (map string_bytes words.now) → result ≡ Status.Ok → (tree : PlainTree) × (costs : Costs)
-        × Accepts (H.told shelf.old (word_at (map string_bytes words.now) 1)) tree × GivesCosts (H.told shelf.old (word_at (map string_bytes words.now) 2)) costs
-        × Takes (image_bytes tree costs) (K.taken out.old) (K.taken out.new) × KeepsItsPromise (set_of tree) costs }
-
-    // What out took, and how often.
+    ensures no_loads { result ≡ Status.Words → H.seen shelf.new ≡ H.seen shelf.old }
     ensures untouched { IsTrue (writes result) ⊎ (out.new ≡ out.old) }
-    ensures fault { result ≡ Status.WriteFault → Rose (K.faults out.old) (K.faults out.new) }
-    ensures puts { IsCompile (map string_bytes words.now) → PutsAtMost 1 (K.puts out.old) (K.puts out.new) }
 
-    // The fault line, whole unless err has a fault.
-    ensures line { Rose (K.faults err.old) (K.faults err.new)
-        ⊎ Takes (fault_line (map string_bytes words.now) result) (K.taken err.old) (K.taken err.new) }
-    ensures line_prefix { TakesPrefix (fault_line (map string_bytes words.now) result) (K.taken err.old) (K.taken err.new) }
-    ensures line_pieces { ArePut (fault_pieces (map string_bytes words.now) result)
-        (seen (K.taken err.old) (K.faults err.old) (K.puts err.old)) (seen (K.taken err.new) (K.faults err.new) (K.puts err.new)) }
+    // Where the bytes of the files are told, they decide the status, but for memory and for reads and puts that fail.
+    ensures exact { (command : Command) (status : Status) → HasForm command (map string_bytes words.now)
+        → IsDecided command (H.seen shelf.old).told (map string_bytes words.now) status → Agrees status result }
+
+    // The fault line was put in its pieces, up to the first fault of `err`.
+    ensures line { ArePut (fault_pieces (map string_bytes words.now) result) (K.seen err.old) (K.seen err.new) }
+
+    // After Ok of `compile`, every run of the written image meets the program.
+    ensures headline { let texts = map string_bytes words.now in HasForm Command.Compile texts → result ≡ Status.Ok
+        → IsCompiled ((H.seen shelf.old).told (word_at texts 1)) ((H.seen shelf.old).told (word_at texts 2)) (K.seen out.old).taken (K.seen out.new).taken }
 {
     let status = answer(alloc, words, shelf, out);
     put_fault_line(words, &status, err);
     status
 }
 
+/// Runs the command, and leaves the fault line out.
 fn answer<H: Shelf, K: Sink>(alloc: Global, words: &[String], shelf: &mut H, out: &mut K) -> Status
+    ensures answer { (command : Command) → HasForm command (map string_bytes words.now)
+        → Does command (map string_bytes words.now) (H.seen shelf.old) (H.seen shelf.new) (K.seen out.old) (K.seen out.new) result }
     ensures words { (result ≡ Status.Words) ↔ HaveNoForm (map string_bytes words.now) }
-    ensures loads { IsCompile (map string_bytes words.now) → (added : List Load) × AreLoads (word_at (map string_bytes words.now) 1) (word_at (map string_bytes words.now) 2) result added
-        × AddsLoads added (H.loads shelf.old) (H.loads shelf.new) × SecondAfter (AcceptsSome (H.told shelf.old (word_at (map string_bytes words.now) 1))) added }
-    ensures answer { let texts = map string_bytes words.now in IsCompile texts →
-        Answers (H.told shelf.old (word_at texts 1)) (H.told shelf.old (word_at texts 2))
-        (λ text. Takes text (K.taken out.old) (K.taken out.new))
-        (λ text. TakesPrefix text (K.taken out.old) (K.taken out.new)
-        × ReachesWithin text (K.taken out.old) (K.reach out.old) (K.reach out.new)) result }
-    ensures run_loads { let texts = map string_bytes words.now in (ticks : ℕ) → IsRun texts ticks
-        → (added : List Load) × AreRunLoads (word_at texts 1) (word_at texts 2) result added
-        × AddsLoads added (H.loads shelf.old) (H.loads shelf.new) × SecondAfter (LoadedFirst (H.told shelf.old (word_at texts 1))) added }
-    ensures run_answer { let texts = map string_bytes words.now in (ticks : ℕ) → IsRun texts ticks
-        → RunAnswers (H.told shelf.old (word_at texts 1)) (H.told shelf.old (word_at texts 2)) ticks
-        (λ lines. Takes (concat lines) (K.taken out.old) (K.taken out.new)
-        × AreTaken lines (seen (K.taken out.old) (K.faults out.old) (K.puts out.old)) (seen (K.taken out.new) (K.faults out.new) (K.puts out.new)))
-        (λ lines. TakesPrefix (concat lines) (K.taken out.old) (K.taken out.new)
-        × ReachesWithin (concat lines) (K.taken out.old) (K.reach out.old) (K.reach out.new)
-        × AreCutOff lines (seen (K.taken out.old) (K.faults out.old) (K.puts out.old)) (seen (K.taken out.new) (K.faults out.new) (K.puts out.new))) result }
-    ensures no_loads { result ≡ Status.Words → H.loads shelf.new ≡ H.loads shelf.old }
+    ensures no_loads { result ≡ Status.Words → H.seen shelf.new ≡ H.seen shelf.old }
     ensures untouched { IsTrue (writes result) ⊎ (out.new ≡ out.old) }
-    ensures fault { result ≡ Status.WriteFault → Rose (K.faults out.old) (K.faults out.new) }
-    ensures puts { IsCompile (map string_bytes words.now) → PutsAtMost 1 (K.puts out.old) (K.puts out.new) }
 {
-    if is_compile(words) {
-        compile(alloc, words[1].as_str(), words[2].as_str(), shelf, out)
-    } else {
-        run_of_words(alloc, words, shelf, out)
+    let Some(command) = command_of(words) else {
+        return Status::Words;
+    };
+    match body(alloc, command, words, shelf, out) {
+        Ok(()) => Status::Ok,
+        Err(status) => status,
     }
 }
 
-/// Runs the command where it is `run`.
-fn run_of_words<H: Shelf, K: Sink>(
+/// Runs this command.
+fn body<H: Shelf, K: Sink>(
     alloc: Global,
+    command: Command,
     words: &[String],
     shelf: &mut H,
     out: &mut K,
-) -> Status
-    ensures words { (result ≡ Status.Words) ↔ ((ticks : ℕ) → IsRun (map string_bytes words.now) ticks → ⊥) }
-    ensures run_loads { let texts = map string_bytes words.now in (ticks : ℕ) → IsRun texts ticks
-        → (added : List Load) × AreRunLoads (word_at texts 1) (word_at texts 2) result added
-        × AddsLoads added (H.loads shelf.old) (H.loads shelf.new) × SecondAfter (LoadedFirst (H.told shelf.old (word_at texts 1))) added }
-    ensures run_answer { let texts = map string_bytes words.now in (ticks : ℕ) → IsRun texts ticks
-        → RunAnswers (H.told shelf.old (word_at texts 1)) (H.told shelf.old (word_at texts 2)) ticks
-        (λ lines. Takes (concat lines) (K.taken out.old) (K.taken out.new)
-        × AreTaken lines (seen (K.taken out.old) (K.faults out.old) (K.puts out.old)) (seen (K.taken out.new) (K.faults out.new) (K.puts out.new)))
-        (λ lines. TakesPrefix (concat lines) (K.taken out.old) (K.taken out.new)
-        × ReachesWithin (concat lines) (K.taken out.old) (K.reach out.old) (K.reach out.new)
-        × AreCutOff lines (seen (K.taken out.old) (K.faults out.old) (K.puts out.old)) (seen (K.taken out.new) (K.faults out.new) (K.puts out.new))) result }
-    ensures no_loads { result ≡ Status.Words → H.loads shelf.new ≡ H.loads shelf.old }
-    ensures untouched { IsTrue (writes result) ⊎ (out.new ≡ out.old) }
-    ensures fault { result ≡ Status.WriteFault → Rose (K.faults out.old) (K.faults out.new) }
+) -> Result<(), Status>
+    requires { HasForm command (map string_bytes words.now) }
+    ensures goes { Does command (map string_bytes words.now) (H.seen shelf.old) (H.seen shelf.new)
+        (K.seen out.old) (K.seen out.new) (status_of result) }
+    ensures untouched { IsTrue (writes (status_of result)) ⊎ (out.new ≡ out.old) }
 {
-    let Some(ticks) = ticks_of(words) else {
-        return Status::Words;
-    };
-    run(
-        alloc,
-        words[1].as_str(),
-        words[2].as_str(),
-        ticks,
-        shelf,
-        out,
-    )
-}
-
-/// Whether the words are `compile` and two more.
-fn is_compile(words: &[String]) -> bool
-    ensures exact { IsTrue result ↔ IsCompile (map string_bytes words.now) }
-    ensures three { IsTrue result → length words.now ≡ 3 }
-{
-    words.len() == 3 && is_word(&words[0], "compile")
-}
-
-/// The ticks, where the words are `run` and three more of which the last is a number.
-fn ticks_of(words: &[String]) -> Option<u64>
-    ensures exact { (ticks : ℕ) → (result ≡ Some ticks) ↔ IsRun (map string_bytes words.now) ticks }
-    ensures four { IfSome result (λ ticks. length words.now ≡ 4) }
-{
-    if words.len() == 4 && is_word(&words[0], "run") {
-        ticks_in(words[3].as_bytes())
-    } else {
-        None
+    match command {
+        Command::Compile => compile(alloc, words, shelf, out),
+        Command::Run => run(alloc, words, shelf, out),
+        Command::Format => format(alloc, words, shelf, out),
     }
-}
-
-fn is_word(word: &String, wanted: &str) -> bool
-    ensures { IsTrue result ↔ (string_bytes word.now ≡ wanted.now) }
-{
-    word.as_str() == wanted
 }

@@ -10,7 +10,12 @@ returns-then-count-eq0-clause-limited g c =
     let old = c.args.into.now.items in
     let new = c.append_block.new.into.items in
     let starts : StartsWith new old = starts_with_trans new c.loop-block.into.items old c.in_ok-count.ensures.starts c.loop-block.invariant.starts in
-    (drop (length old) new, omega (arith, length-drop (length old) new, c.args.into.now.ok.0, c.append_block.new.into.ok.0, c.in_ok-count.ensures.count), starts_with_rest new old starts)
+    record {
+      bytes = drop (length old) new;
+      at_end = starts_with_rest new old starts;
+      within = omega (arith, length-drop (length old) new, c.args.into.now.ok.0, c.append_block.new.into.ok.0, c.in_ok-count.ensures.count);
+      exact = tt;
+    }
 
 pub loop-block-preserved : goal.loop-block-preserved
 loop-block-preserved g c =

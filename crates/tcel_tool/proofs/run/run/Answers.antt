@@ -1,29 +1,41 @@
-use Rattle.std.proofs.Common.{ℕ, List}
-use Rattle.std.specs.List.{concat}
-use Rattle.tcel_io.specs.InTurn.{AreTaken, AreCutOff, seen, AreTaken-whole, AreCutOff-prefix, AreCutOff-fault}
-use Rattle.tcel_io.specs.Reach.{ReachesWithin}
-use Rattle.tcel_io.specs.Taken.{Takes, TakesPrefix}
+use Rattle.std.proofs.Common.{inl, inr, subst}
+use Rattle.tcel_tool.specs.Answer.{OrMemory}
 use Rattle.tcel_tool.specs.Lines.{lines}
-use Rattle.tcel_tool.proofs.RunLines.{run_ends}
+use Rattle.tcel_tool.specs.RunCommand.{RefusesLines}
+use Rattle.tcel_tool.specs.declared.status.Status.TheVariants as statuses
+use Rattle.tcel_tool.proofs.Exits.{at_end, at_write_fault, cut_off, ended, stops, taken}
+use Rattle.tcel_tool.proofs.RunStages.{behind_image, behind_script, faulty_lines, lines_are, read_image}
 use Rattle.tcel_tool.proofs.run.run.Goals as goal
 
-pub returns-in-Ok-clause-answer : goal.returns-in-Ok-clause-answer
-returns-in-Ok-clause-answer g c =
-    let told = g.H.Shelf.told c.args.shelf.now in
-    let old = seen (g.K.Sink.taken c.args.out.now) (g.K.Sink.faults c.args.out.now) (g.K.Sink.puts c.args.out.now) in
-    let new = seen (g.K.Sink.taken c.put_trace.new.out) (g.K.Sink.faults c.put_trace.new.out) (g.K.Sink.puts c.put_trace.new.out) in
-    let all = lines c.in-Ok.machine c.args.ticks in
-    let whole = λ (ls : List (List ℕ)). Takes (concat ls) old.taken new.taken × AreTaken ls old new in
-    let part = λ (ls : List (List ℕ)). TakesPrefix (concat ls) old.taken new.taken
-    × ReachesWithin (concat ls) old.taken (g.K.Sink.reach c.args.out.now) (g.K.Sink.reach c.put_trace.new.out) × AreCutOff ls old new in
-    run_ends (told c.args.image.now) (told c.args.script.now) c.args.ticks whole part c.put_trace.result c.in-Ok.machine c.put_trace.ensures.either
-    c.in-Ok.ensures.few c.in-Ok.ensures.machine
-    (λ ok. (AreTaken-whole all old new (c.put_trace.ensures.taken ok), c.put_trace.ensures.taken ok))
-    (λ fault. (AreCutOff-prefix all old new (c.put_trace.ensures.cut_off fault), c.put_trace.ensures.reach, c.put_trace.ensures.cut_off fault))
+pub returns-in_err-script-clause-goes : goal.returns-in_err-script-clause-goes
+returns-in_err-script-clause-goes g c =
+    let read = read_image c.deref.result.now c.in_ok-ticks.ensures.few c.in_ok-bytes.ensures.loaded c.deref.ensures.value c.in_ok-ready.ensures.image c.in_ok-text.ensures.loaded in
+    let out = g.K.Sink.seen c.args.out.now in
+    let exit = c.from_residual-in_err-script in
+    let end = ended (g.H.Shelf.seen c.load-2.new.shelf) out out exit.result in
+    let status = c.in_err-script.field-0.0 in
+    let cause = subst (λ t. OrMemory (RefusesLines c.in_ok-ready.ready t) status) c.deref-2.ensures.value c.in_err-script.ensures.refusal in
+    behind_image end read (inl (stops exit.result status exit.ensures.1 (faulty_lines end read status cause)))
 
-pub returns-in-Ok-clause-fault : goal.returns-in-Ok-clause-fault
-returns-in-Ok-clause-fault g c =
-    λ fault. AreCutOff-fault (lines c.in-Ok.machine c.args.ticks)
-    (seen (g.K.Sink.taken c.args.out.now) (g.K.Sink.faults c.args.out.now) (g.K.Sink.puts c.args.out.now))
-    (seen (g.K.Sink.taken c.put_trace.new.out) (g.K.Sink.faults c.put_trace.new.out) (g.K.Sink.puts c.put_trace.new.out))
-    (c.put_trace.ensures.cut_off fault)
+pub returns-in_err-put_lines-clause-goes : goal.returns-in_err-put_lines-clause-goes
+returns-in_err-put_lines-clause-goes g c =
+    let read = read_image c.deref.result.now c.in_ok-ticks.ensures.few c.in_ok-bytes.ensures.loaded c.deref.ensures.value c.in_ok-ready.ensures.image c.in_ok-text.ensures.loaded in
+    let exit = c.from_residual-in_err-put_lines in
+    let end = ended (g.H.Shelf.seen c.load-2.new.shelf) (g.K.Sink.seen c.args.out.now) (g.K.Sink.seen c.put_lines.new.out) exit.result in
+    let machine = c.in_ok-machine.machine in
+    let ticks = c.in_ok-ticks.ticks in
+    let text = lines_are end read c.deref-2.result.now c.deref-2.ensures.value c.in_ok-script.ensures.streams machine ticks c.in_ok-machine.ensures c.in_ok-ticks.ensures.value in
+    behind_script end read c.deref-2.result.now c.deref-2.ensures.value c.in_ok-script.ensures.streams
+    (inr (cut_off (lines machine ticks) exit.result text exit.ensures.1 c.in_err-put_lines.ensures.cut_off))
+
+pub returns-clause-goes : goal.returns-clause-goes
+returns-clause-goes g c =
+    let read = read_image c.deref.result.now c.in_ok-ticks.ensures.few c.in_ok-bytes.ensures.loaded c.deref.ensures.value c.in_ok-ready.ensures.image c.in_ok-text.ensures.loaded in
+    let end = at_end (g.H.Shelf.seen c.load-2.new.shelf) (g.K.Sink.seen c.args.out.now) (g.K.Sink.seen c.put_lines.new.out) statuses.Ok in
+    let machine = c.in_ok-machine.machine in
+    let ticks = c.in_ok-ticks.ticks in
+    let text = lines_are end read c.deref-2.result.now c.deref-2.ensures.value c.in_ok-script.ensures.streams machine ticks c.in_ok-machine.ensures c.in_ok-ticks.ensures.value in
+    behind_script end read c.deref-2.result.now c.deref-2.ensures.value c.in_ok-script.ensures.streams (inr (taken (lines machine ticks) text c.in_ok-put_lines.ensures.taken))
+
+pub returns-in_err-put_lines-clause-untouched : goal.returns-in_err-put_lines-clause-untouched
+returns-in_err-put_lines-clause-untouched g c = inl (at_write_fault c.from_residual-in_err-put_lines.result c.from_residual-in_err-put_lines.ensures.1)

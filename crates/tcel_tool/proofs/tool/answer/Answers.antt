@@ -1,42 +1,37 @@
-use Rattle.std.proofs.Common.{◌≡◌, ℕ, List, length, sym, ◌∙◌, subst, arith}
-use Rattle.std.specs.Prelude.{string_bytes, map}
-use Rattle.tcel_io.specs.Reach.{ReachesWithin}
-use Rattle.tcel_io.specs.Taken.{Takes, TakesPrefix}
-use Rattle.tcel_tool.specs.Answer.{AcceptsSome, Answers, AreLoads, SecondAfter}
-use Rattle.tcel_tool.specs.FaultLine.{word_at}
-use Rattle.tcel_tool.proofs.CommandWords.{word_is}
+use Rattle.std.proofs.Common.{subst}
+use Rattle.std.specs.Prelude.{map, string_bytes}
+use Rattle.tcel_tool.specs.Answer.{Does, begun}
+use Rattle.tcel_tool.specs.Commands.{stages_of}
+use Rattle.tcel_tool.specs.declared.status.Status.TheVariants as statuses
+use Rattle.tcel_tool.proofs.CallLaws.{never_words}
+use Rattle.tcel_tool.proofs.Exits.{at_end}
+use Rattle.tcel_tool.proofs.Forms.{one_form}
 use Rattle.tcel_tool.proofs.tool.answer.Goals as goal
 
-pub returns-then-is_compile-clause-loads : goal.returns-then-is_compile-clause-loads
-returns-then-is_compile-clause-loads g c =
-    let texts = map string_bytes c.args.words.now in
-    let three : length c.args.words.now ≡ 3 = c.is_compile.ensures.three c.if-is_compile.true in
-    let program : word_at texts 1 ≡ c.as_str.result.now =
-    word_is string_bytes c.args.words.now 1 c.index-words-1.result (omega arith) (sym c.index-words-1.is) ∙ sym c.as_str.ensures.value in
-    let target : word_at texts 2 ≡ c.as_str-then-is_compile.result.now =
-    word_is string_bytes c.args.words.now 2 c.index-words-2.result (omega arith) (sym c.index-words-2.is) ∙ sym c.as_str-then-is_compile.ensures.value in
-    let done = c.compile.ensures.loads in
-    let told = g.H.Shelf.told c.args.shelf.now in
-    λ _. (
-      done.0,
-      subst (λ p. AreLoads p (word_at texts 2) c.compile.result done.0) (sym program) (subst (λ t. AreLoads c.as_str.result.now t c.compile.result done.0) (sym target) done.1),
-      done.2,
-      subst (λ p. SecondAfter (AcceptsSome (told p)) done.0) (sym program) done.3,
-    )
+pub returns-in_default-clause-answer : goal.returns-in_default-clause-answer
+returns-in_default-clause-answer g c = λ command form. absurd (c.in_default.ensures.none command form)
 
-pub returns-then-is_compile-clause-answer : goal.returns-then-is_compile-clause-answer
-returns-then-is_compile-clause-answer g c =
-    let texts = map string_bytes c.args.words.now in
-    let told = g.H.Shelf.told c.args.shelf.now in
-    let before = g.K.Sink.taken c.args.out.now in
-    let now = g.K.Sink.taken c.compile.new.out in
-    let whole = λ (text : List ℕ). Takes text before now in
-    let part = λ (text : List ℕ). TakesPrefix text before now × ReachesWithin text before (g.K.Sink.reach c.args.out.now) (g.K.Sink.reach c.compile.new.out) in
-    let three : length c.args.words.now ≡ 3 = c.is_compile.ensures.three c.if-is_compile.true in
-    let program : word_at texts 1 ≡ c.as_str.result.now =
-    word_is string_bytes c.args.words.now 1 c.index-words-1.result (omega arith) (sym c.index-words-1.is) ∙ sym c.as_str.ensures.value in
-    let target : word_at texts 2 ≡ c.as_str-then-is_compile.result.now =
-    word_is string_bytes c.args.words.now 2 c.index-words-2.result (omega arith) (sym c.index-words-2.is) ∙ sym c.as_str-then-is_compile.ensures.value in
-    λ _.
-    subst (λ p. Answers (told p) (told (word_at texts 2)) whole part c.compile.result) (sym program)
-    (subst (λ t. Answers (told c.as_str.result.now) (told t) whole part c.compile.result) (sym target) c.compile.ensures.answer)
+pub returns-in-Ok-clause-answer : goal.returns-in-Ok-clause-answer
+returns-in-Ok-clause-answer g c =
+    let words = map string_bytes c.args.words.now in
+    λ command form.
+    subst (λ k. Does k words (g.H.Shelf.seen c.args.shelf.now) (g.H.Shelf.seen c.body.new.shelf) (g.K.Sink.seen c.args.out.now) (g.K.Sink.seen c.body.new.out) statuses.Ok)
+    (one_form words c.in-Some.command command c.in-Some.ensures.some form) c.in-Ok.ensures.goes
+
+pub returns-in-Ok-clause-words : goal.returns-in-Ok-clause-words
+returns-in-Ok-clause-words g c = (λ e. absurd cc, λ none. absurd (none c.in-Some.command c.in-Some.ensures.some))
+
+pub returns-in-Err-clause-answer : goal.returns-in-Err-clause-answer
+returns-in-Err-clause-answer g c =
+    let words = map string_bytes c.args.words.now in
+    λ command form.
+    subst (λ k. Does k words (g.H.Shelf.seen c.args.shelf.now) (g.H.Shelf.seen c.body.new.shelf) (g.K.Sink.seen c.args.out.now) (g.K.Sink.seen c.body.new.out) c.in-Err.status)
+    (one_form words c.in-Some.command command c.in-Some.ensures.some form) c.in-Err.ensures.goes
+
+pub returns-in-Err-clause-words : goal.returns-in-Err-clause-words
+returns-in-Err-clause-words g c =
+    let words = map string_bytes c.args.words.now in
+    let end = at_end (g.H.Shelf.seen c.body.new.shelf) (g.K.Sink.seen c.args.out.now) (g.K.Sink.seen c.body.new.out) c.in-Err.status in (
+      λ e. absurd (never_words c.in-Some.command end (stages_of c.in-Some.command) (begun words) (g.H.Shelf.seen c.args.shelf.now) c.in-Err.ensures.goes e),
+      λ none. absurd (none c.in-Some.command c.in-Some.ensures.some),
+    )

@@ -1,32 +1,26 @@
-use Rattle.std.specs.Prelude.{string_bytes, map}
-use Rattle.tcel_io.specs.InTurn.{seen, ArePut-whole, ArePut-prefix}
-use Rattle.tcel_io.specs.Reach.{ReachesWithin}
-use Rattle.tcel_io.specs.Taken.{Takes, TakesPrefix}
-use Rattle.tcel_tool.specs.FaultLine.{fault_pieces, word_at}
-use Rattle.tcel_tool.proofs.Kept.{kept}
+use Rattle.std.proofs.Common.{refl}
+use Rattle.std.specs.Prelude.{map, string_bytes}
+use Rattle.tcel_tool.specs.Answer.{begun}
+use Rattle.tcel_tool.specs.Commands.{stages_of}
+use Rattle.tcel_tool.specs.declared.command.Command.TheVariants.{Compile}
+use Rattle.tcel_tool.proofs.CallLaws.{agrees}
+use Rattle.tcel_tool.proofs.CompileFacts.{compiled}
+use Rattle.tcel_tool.proofs.Exits.{at_end}
 use Rattle.tcel_tool.proofs.tool.tcel.Goals as goal
 
-pub returns-clause-line : goal.returns-clause-line
-returns-clause-line g c =
-    ArePut-whole (fault_pieces (map string_bytes c.args.words.now) c.answer-status.result)
-    (seen (g.K.Sink.taken c.args.err.now) (g.K.Sink.faults c.args.err.now) (g.K.Sink.puts c.args.err.now))
-    (seen (g.K.Sink.taken c.put_fault_line.new.err) (g.K.Sink.faults c.put_fault_line.new.err) (g.K.Sink.puts c.put_fault_line.new.err))
-    c.put_fault_line.ensures
-
-pub returns-clause-line_prefix : goal.returns-clause-line_prefix
-returns-clause-line_prefix g c =
-    ArePut-prefix (fault_pieces (map string_bytes c.args.words.now) c.answer-status.result)
-    (seen (g.K.Sink.taken c.args.err.now) (g.K.Sink.faults c.args.err.now) (g.K.Sink.puts c.args.err.now))
-    (seen (g.K.Sink.taken c.put_fault_line.new.err) (g.K.Sink.faults c.put_fault_line.new.err) (g.K.Sink.puts c.put_fault_line.new.err))
-    c.put_fault_line.ensures
+pub returns-clause-exact : goal.returns-clause-exact
+returns-clause-exact g c =
+    let words = map string_bytes c.args.words.now in
+    let shelf = g.H.Shelf.seen c.args.shelf.now in
+    let done = c.answer-status in
+    let end = at_end (g.H.Shelf.seen done.new.shelf) (g.K.Sink.seen c.args.out.now) (g.K.Sink.seen done.new.out) done.result in
+    λ command status form decided.
+    agrees command end shelf.told status (stages_of command) (begun words) shelf refl (done.ensures.answer command form) decided
 
 pub returns-clause-headline : goal.returns-clause-headline
 returns-clause-headline g c =
-    let texts = map string_bytes c.args.words.now in
-    λ h.
-    kept
-    (g.H.Shelf.told c.args.shelf.now (word_at texts 1)) (g.H.Shelf.told c.args.shelf.now (word_at texts 2))
-    (λ text. Takes text (g.K.Sink.taken c.args.out.now) (g.K.Sink.taken c.answer-status.new.out))
-    (λ text. TakesPrefix text (g.K.Sink.taken c.args.out.now) (g.K.Sink.taken c.answer-status.new.out)
-    × ReachesWithin text (g.K.Sink.taken c.args.out.now) (g.K.Sink.reach c.args.out.now) (g.K.Sink.reach c.answer-status.new.out))
-    c.answer-status.result (c.answer-status.ensures.answer h)
+    let words = map string_bytes c.args.words.now in
+    let done = c.answer-status in
+    λ form ok.
+    compiled words (g.H.Shelf.seen c.args.shelf.now) (g.H.Shelf.seen done.new.shelf) (g.K.Sink.seen c.args.out.now) (g.K.Sink.seen done.new.out) done.result
+    (done.ensures.answer Compile form) ok

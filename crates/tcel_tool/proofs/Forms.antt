@@ -1,0 +1,78 @@
+-- Words and the commands whose form they have.
+use Rattle.std.proofs.Common.{◌≡◌, ℕ, ◌<◌, ◌≤◌, Bool, true, false, List, [], ◌∷◌, ◌&&◌, nat_le, nat_lt, ◌-◌, length, get_or, map, take, drop, refl, sym, ap, ◌∙◌, arith}
+use Rattle.std.proofs.lemmas.Bool.Decides.{nat_tests}
+use Rattle.std.proofs.lemmas.List.{take_rest}
+use Rattle.std.proofs.lemmas.List.Folds.{list_all_at}
+use Rattle.std.specs.Char.{is_ascii_digit}
+use Rattle.std.specs.Prelude.{IsTrue}
+use Rattle.std.specs.List.{AllByRecursion, list_all}
+use Rattle.tcel_tool.specs.CommandLine.{AreWords, fit, is_number, word_at}
+use Rattle.tcel_tool.specs.Commands.{HasForm, HaveNoForm, name_of}
+use Rattle.tcel_tool.specs.declared.command.Slot.{Slot}
+use Rattle.tcel_tool.specs.declared.command.Command.{Command}
+use Rattle.tcel_tool.specs.declared.command.Command.TheVariants.{Compile, Run, Format}
+
+-- no two commands have one name
+one_name : (a b : Command) → name_of a ≡ name_of b → a ≡ b
+one_name Compile Compile e = refl
+one_name Compile Run e = absurd cc
+one_name Compile Format e = absurd cc
+one_name Run Compile e = absurd cc
+one_name Run Run e = refl
+one_name Run Format e = absurd cc
+one_name Format Compile e = absurd cc
+one_name Format Run e = absurd cc
+one_name Format Format e = refl
+
+-- words have the form of one command at most
+pub one_form : (words : List (List ℕ)) (a b : Command) → HasForm a words → HasForm b words → a ≡ b
+one_form [] a b h k = absurd h
+one_form (first ∷ words) a b h k = one_name a b (sym h.0 ∙ k.0)
+
+-- words that have the form of none of the three have the form of none
+pub of_none : (words : List (List ℕ)) → AllByRecursion (λ (command : Command). ¬ HasForm command words) (Compile ∷ Run ∷ Format ∷ []) → HaveNoForm words
+of_none words none Compile = none.0
+of_none words none Run = none.1.0
+of_none words none Format = none.1.1.0
+
+both : (a b : Bool) → IsTrue (a && b) → IsTrue a × IsTrue b
+both true b h = (refl, h)
+both false b h = absurd cc
+
+-- the third word behind `run` is a number
+pub third_is_number : (words : List (List ℕ)) → HasForm Run words → IsTrue (is_number (word_at words 3))
+third_is_number [] h = absurd h
+third_is_number (name ∷ []) h = absurd (let e = h.1 in cc)
+third_is_number (name ∷ a ∷ []) h = absurd (let e = h.1 in cc)
+third_is_number (name ∷ a ∷ b ∷ []) h = absurd (let e = h.1 in cc)
+third_is_number (name ∷ a ∷ b ∷ c ∷ words) h = (both (is_number c) (fit [] words) h.1).0
+
+one_way : (b : Bool) → (b ≡ false → ⊥) → b ≡ true
+one_way true h = refl
+one_way false h = absurd (h refl)
+
+-- a number has at most 18 digits
+pub few_digits : (word : List ℕ) → IsTrue (is_number word) → length word ≤ 18
+few_digits word h =
+    let rest = both (nat_lt 0 (length word)) (nat_le (length word) 18 && list_all is_ascii_digit word) h in
+    let few : nat_le (length word) 18 ≡ true = (both (nat_le (length word) 18) (list_all is_ascii_digit word) rest.1).0 in
+    grind (arith, nat_tests)
+
+-- and each of its bytes is one
+pub is_digit_at : (word : List ℕ) (i : ℕ) → IsTrue (is_number word) → i < length word → is_ascii_digit (get_or word i 0) ≡ true
+is_digit_at word i h lt =
+    let rest = both (nat_lt 0 (length word)) (nat_le (length word) 18 && list_all is_ascii_digit word) h in
+    let all : list_all is_ascii_digit word ≡ true = (both (nat_le (length word) 18) (list_all is_ascii_digit word) rest.1).1 in
+    one_way (is_ascii_digit (get_or word i 0)) (λ none. let no = list_all_at is_ascii_digit word i 0 lt none in cc)
+
+-- words of which the first is a name, where a test tells whether the others fit the slots
+pub has_words : {A : Type 0} (f : A → List ℕ) (words : List A) (first : A) (name : List ℕ) (slots : List Slot) (b : Bool) → 1 ≤ length words → first ≡ get_or words 0 first
+    → f first ≡ name → b ≡ fit slots (map f (take (length words - 1) (drop 1 words)))
+    → (IsTrue b → AreWords name slots (map f words)) × (AreWords name slots (map f words) → IsTrue b)
+has_words f [] first name slots b some is named e = absurd (omega arith)
+has_words f (word ∷ words) first name slots b some is named e =
+    let rest = take_rest (word ∷ words) 1 in
+    let same : b ≡ fit slots (map f words) = e ∙ ap (λ l. fit slots (map f l)) rest in (
+      λ t. (sym (ap f is) ∙ named, sym same ∙ t),
+      λ h. same ∙ h.1,
+    )

@@ -1,0 +1,8 @@
+use Rattle.tcel_tool.proofs.CommandExamples.{deep_line, unexpected_line}
+use Rattle.tcel_tool.proofs.examples.command_examples.Goals as goal
+
+pub returns-clause-line : goal.returns-clause-line
+returns-clause-line c = unexpected_line
+
+pub returns-clause-deep : goal.returns-clause-deep
+returns-clause-deep c = deep_line

@@ -1,0 +1,10 @@
+use Rattle.tcel_tool.proofs.tool.body.Goals as goal
+
+pub returns-in-Compile-clause-goes : goal.returns-in-Compile-clause-goes
+returns-in-Compile-clause-goes g c = rw c.in-Compile.is c.compile.ensures.goes
+
+pub returns-in-Run-clause-goes : goal.returns-in-Run-clause-goes
+returns-in-Run-clause-goes g c = rw c.in-Run.is c.run.ensures.goes
+
+pub returns-in-Format-clause-goes : goal.returns-in-Format-clause-goes
+returns-in-Format-clause-goes g c = rw c.in-Format.is c.format.ensures.goes

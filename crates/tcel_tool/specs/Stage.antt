@@ -1,0 +1,15 @@
+-- What a command does before it writes: its stages, in order. Each may stop it.
+use Rattle.std.specs.Prelude.{ℕ, List}
+use Rattle.tcel_tool.specs.Test.{Test}
+use Rattle.tcel_tool.specs.declared.status.CountKind.{CountKind}
+
+-- the file of a word is loaded, with a limit in bytes; the number that a word writes is compared with the greatest one allowed; what was read is tested
+pub data Stage : Type 0 where
+  load : (word limit : ℕ) → Stage
+  bound : (kind : CountKind) (word most : ℕ) → Stage
+  test : Test → Stage
+
+-- a call of a command: its words, and the bytes that were read so far from the file of each word
+pub record Call : Type 0 where
+  pub words : List (List ℕ)
+  pub read : ℕ → List ℕ
