@@ -70,7 +70,7 @@ module _ (names : Numbered) where
         in
         let all = whole.room in
         let one = used_if n in
-        rw (same, behind) (record { bounded = whole.bounded.1; room = omega arith })
+        rw (same, behind) (record { bounded = whole.bounded.0; room = omega arith })
 
     pub fits_no : (block : List tree_stmt.Stmt) {ys zs : List tree_stmt.Stmt} (n k m : Numbers) → s.what ≡ If test held other → other ≡ Some block → ys ≡ held → zs ≡ block →
         k ≡ behind_if n → m ≡ behind_block (plain_block ys) k → StmtFits n (core_stmt (plain_stmt s) names n) → BlockFits m (core_block (plain_block zs) names m)
@@ -81,7 +81,7 @@ module _ (names : Numbered) where
         let one = used_if n in
         let yes_part = used_block (plain_block held) (behind_if n) in
         let is_m : m ≡ behind_block (plain_block held) (behind_if n) = second ∙ rw (same, first) refl in
-        rw (also, is_m) (record { bounded = whole.bounded.2; room = omega arith })
+        rw (also, is_m) (record { bounded = whole.bounded.1; room = omega arith })
 
 joined_push : (xs : List core.Stmt) (s : core.Stmt) (rest : core.Block) → joined (plain_core.block_of (xs ++ s ∷ [])) rest ≡ joined (plain_core.block_of xs) (core.next s rest)
 joined_push [] s rest = refl

@@ -18,6 +18,7 @@ use Rattle.tcel_check.specs.declared.purpose.Purpose.TheVariants.{Scalar, Elemen
 use Rattle.tcel_check.specs.declared.value_type.ValueType.{ValueType}
 use Rattle.tcel_check.specs.Answers.{IsFitExpr, block_exprs, stmt_exprs, branch_exprs}
 use Rattle.tcel_check.specs.Checked.{Numbers, core_block, core_branch, core_expr, core_stmt, core_window, behind_block, behind_if, behind_do, behind_stmt, in_loop, number_of, numbered, time_of, vars_of}
+use Rattle.tcel_check.specs.Rooms.{HasBounds, StmtHasBounds}
 use Rattle.tcel_check.specs.Rows.{has_type, same_decl, whole}
 use Rattle.tcel_check.specs.Sights.{Sight, block_sights, branch_sights, clause_sights, expr_sights, inside, stmt_sights, window_sights, node, name, loop, window, bound}
 use Rattle.tcel_check.specs.Types.{is_input, is_output, kind_of, named, scalar_type, type_of}
@@ -209,3 +210,38 @@ module _ (ds : List Decl) (unlike : Unlike same_decl ds) where
         AllByRecursion Fit (branch_exprs b) → BlockIsSound names loops (core_branch b (numbered ds) next_ones)
     branch_sound absent loops next_ones le h fit = record { typed = tt; bounded = tt; loops_untimed = tt; untimed = λ some. tt; depth = omega arith }
     branch_sound (present b) loops next_ones le h fit = block_sound b loops next_ones le h fit
+
+  -- bounds alone, whatever the expressions are
+  mutual
+    pub block_bounds : (b : Block) (loops : ℕ) (next_ones : Numbers) → AllByRecursion (Clean ds) (block_sights b kind loops) → HasBounds (core_block b (numbered ds) next_ones)
+    block_bounds done loops next_ones h = tt
+    block_bounds (next s rest) loops next_ones h = (
+      stmt_bounds s loops next_ones (all_left (Clean ds) (stmt_sights s kind loops) (block_sights rest kind loops) h),
+      block_bounds rest loops (behind_stmt s next_ones) (all_right (Clean ds) (stmt_sights s kind loops) (block_sights rest kind loops) h),
+    )
+
+    stmt_bounds : (s : Stmt) (loops : ℕ) (next_ones : Numbers) → AllByRecursion (Clean ds) (stmt_sights s kind loops) → StmtHasBounds (core_stmt s (numbered ds) next_ones)
+    stmt_bounds (assign at x e) loops next_ones h = tt
+    stmt_bounds (assign_at at x i e) loops next_ones h = tt
+    stmt_bounds (receive at x x_at port port_at) loops next_ones h = tt
+    stmt_bounds (send at e port port_at) loops next_ones h = tt
+    stmt_bounds (choice at test held other) loops next_ones h =
+        let both = all_right (Clean ds) (expr_sights test (Some ValueType.Bool)) (block_sights held kind loops ++ branch_sights other kind loops) h.1 in (
+          block_bounds held loops (behind_if next_ones) (all_left (Clean ds) (block_sights held kind loops) (branch_sights other kind loops) both),
+          branch_bounds other loops (behind_block held (behind_if next_ones)) (all_right (Clean ds) (block_sights held kind loops) (branch_sights other kind loops) both),
+        )
+    stmt_bounds (for_loop at x x_at turns body) loops next_ones h =
+        let count = clean_bound kind turns 4096 h.1.1.1.0 in
+        (record { some = count.0; most = count.1 }, block_bounds body (inside loops) in_loop h.1.1.1.1)
+    stmt_bounds (while_loop at test turns body) loops next_ones h =
+        let rest = all_right (Clean ds) (expr_sights test (Some ValueType.Bool)) (bound turns 4096 ∷ block_sights body kind (inside loops)) h.1.1 in
+        let count = clean_bound kind turns 4096 rest.0 in
+        (record { some = count.0; most = count.1 }, block_bounds body (inside loops) in_loop rest.1)
+    stmt_bounds (timed at w body) loops next_ones h = (
+      window_within w (all_left (Clean ds) (window_sights w) (block_sights body kind loops) h.1.1),
+      block_bounds body loops (behind_do next_ones) (all_right (Clean ds) (window_sights w) (block_sights body kind loops) h.1.1),
+    )
+
+    branch_bounds : (b : Branch) (loops : ℕ) (next_ones : Numbers) → AllByRecursion (Clean ds) (branch_sights b kind loops) → HasBounds (core_branch b (numbered ds) next_ones)
+    branch_bounds absent loops next_ones h = tt
+    branch_bounds (present b) loops next_ones h = block_bounds b loops next_ones h

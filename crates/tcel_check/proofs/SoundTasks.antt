@@ -16,6 +16,8 @@ use Rattle.tcel_check.specs.declared.fail.LimitKind.{LimitKind}
 use Rattle.tcel_check.specs.declared.fail.LimitKind.TheVariants.{Variables, Nodes, Windows}
 use Rattle.tcel_check.specs.Answers.{IsFitExpr, block_exprs}
 use Rattle.tcel_check.specs.Checked.{core_block, core_task, first_numbers, numbered, time_of, vars_of}
+use Rattle.tcel_core.specs.Limits as limits
+use Rattle.tcel_check.specs.Rooms.{TaskFits}
 use Rattle.tcel_check.specs.Marks.{limit}
 use Rattle.tcel_check.specs.Rows.{at_decl, limit_at, many_names, many_nodes, many_windows, many_words, node_places, past, passing, repeats, same_decl, sight_marks, task_marks, task_sights, twice_mark, twice_names, whole, window_places, word_mark}
 use Rattle.tcel_check.specs.Sights.{Sight, block_sights, bound, clause_sights, head_sights, length_sights}
@@ -23,7 +25,7 @@ use Rattle.tcel_check.specs.Spelled.{IsSpelled, IsSpelledTask}
 use Rattle.tcel_check.specs.Types.{kind_of}
 use Rattle.tcel_check.proofs.Clean.{clean_bound}
 use Rattle.tcel_check.proofs.Lists.{Unlike, all_both, all_left, all_right, each_none, left_none, map_none, pairs_all, right_none, slice_none, unlike_of}
-use Rattle.tcel_check.proofs.SoundBlocks.{block_sound}
+use Rattle.tcel_check.proofs.SoundBlocks.{block_bounds, block_sound}
 use Rattle.tcel_check.proofs.SoundCounts.{blocks_kept, nodes_kept, windows_append}
 use Rattle.tcel_check.proofs.SoundDecls.{declared_in_order, names_distinct, names_in_order, names_length, names_named, vars_declared, vars_in_order, vars_words}
 use Rattle.tcel_check.proofs.SoundExprs.{Clean, node_count, count_append}
@@ -70,7 +72,7 @@ pub map_length : {A B : Type 0} (f : A → B) (xs : List A) → length (map f xs
 map_length f [] = refl
 map_length f (x ∷ xs) = let rest = map_length f xs in omega arith
 
-module _ (t : Task) (free : HasNoMarks t) (spelled : IsSpelledTask t) (fit : AllByRecursion IsFitExpr (block_exprs t.body)) where
+module _ (t : Task) (free : HasNoMarks t) (spelled : IsSpelledTask t) where
   ds : List Decl
   ds = t.decls
 
@@ -105,24 +107,6 @@ module _ (t : Task) (free : HasNoMarks t) (spelled : IsSpelledTask t) (fit : All
   priority_sound : IsPriority (whole t.priority.value)
   priority_sound = let b = clean_bound (kind_of t.decls) t.priority 1000 head_clean.0 in record { some = b.0; most = b.1 }
 
-  body_sound : HasSoundBody (core_task t)
-  body_sound =
-      let part = block_sound t.decls unlike t.body 0 first_numbers (omega arith) body_clean fit in
-      let nodes = nodes_kept (kind_of t.decls) (numbered t.decls) t.body 0 first_numbers in
-      let blocks = blocks_kept (kind_of t.decls) (numbered t.decls) t.body 0 first_numbers in
-      let some = past_none Nodes 4000 (flat_map node_places (task_sights t)) free.nodes in
-      let few = past_none Windows 31 (flat_map window_places (task_sights t)) free.windows in
-      let all = count_append (head_sights t) (block_sights t.body (kind_of t.decls) 0) in
-      record {
-        typed = part.typed;
-        bounded = part.bounded;
-        untimed = part.loops_untimed;
-        depth = let deep = part.depth in omega arith;
-        nodes = omega arith;
-        windows = let both = windows_append (head_sights t) (block_sights t.body (kind_of t.decls) 0) in omega arith;
-        numbered = numbered_so (numbered t.decls) t.body part.loops_untimed;
-      }
-
   declarations_sound : HasSoundDeclarations (core_task t)
   declarations_sound =
       let lengths_clean = all_left (Clean t.decls) lengths times head_clean.1 in
@@ -139,17 +123,56 @@ module _ (t : Task) (free : HasNoMarks t) (spelled : IsSpelledTask t) (fit : All
         most = rw order (omega arith);
       }
 
-  task_sound : IsSoundTask (core_task t)
-  task_sound =
+  nodes_few : limits.nodes (core_task t).body ≤ 4000
+  nodes_few =
+      let nodes = nodes_kept (kind_of t.decls) (numbered t.decls) t.body 0 first_numbers in
+      let some = past_none Nodes 4000 (flat_map node_places (task_sights t)) free.nodes in
+      let all = count_append (head_sights t) (block_sights t.body (kind_of t.decls) 0) in
+      omega arith
+
+  task_fits : TaskFits (core_task t)
+  task_fits =
       let period = time_sound t.period times_clean.0 in
       record {
-        name = spelled.name;
         priority = priority_sound;
         period = period;
         deadline = deadline_sound t.finish times_clean.1 period;
-        declarations = declarations_sound;
-        body = body_sound;
+        distinct = declarations_sound.distinct;
+        few = declarations_sound.most;
+        bounded = block_bounds t.decls unlike t.body 0 first_numbers body_clean;
+        room = nodes_few;
       }
+
+  module _ (fit : AllByRecursion IsFitExpr (block_exprs t.body)) where
+    body_sound : HasSoundBody (core_task t)
+    body_sound =
+        let part = block_sound t.decls unlike t.body 0 first_numbers (omega arith) body_clean fit in
+        let nodes = nodes_kept (kind_of t.decls) (numbered t.decls) t.body 0 first_numbers in
+        let blocks = blocks_kept (kind_of t.decls) (numbered t.decls) t.body 0 first_numbers in
+        let some = past_none Nodes 4000 (flat_map node_places (task_sights t)) free.nodes in
+        let few = past_none Windows 31 (flat_map window_places (task_sights t)) free.windows in
+        let all = count_append (head_sights t) (block_sights t.body (kind_of t.decls) 0) in
+        record {
+          typed = part.typed;
+          bounded = part.bounded;
+          untimed = part.loops_untimed;
+          depth = let deep = part.depth in omega arith;
+          nodes = nodes_few;
+          windows = let both = windows_append (head_sights t) (block_sights t.body (kind_of t.decls) 0) in omega arith;
+          numbered = numbered_so (numbered t.decls) t.body part.loops_untimed;
+        }
+
+    task_sound : IsSoundTask (core_task t)
+    task_sound =
+        let period = time_sound t.period times_clean.0 in
+        record {
+          name = spelled.name;
+          priority = priority_sound;
+          period = period;
+          deadline = deadline_sound t.finish times_clean.1 period;
+          declarations = declarations_sound;
+          body = body_sound;
+        }
 
 pub sound_task : (t : Task) → task_marks t ≡ [] → IsSpelledTask t → AllByRecursion IsFitExpr (block_exprs t.body) → IsSoundTask (core_task t)
 sound_task t h spelled fit = task_sound t (no_marks t h) spelled fit
@@ -160,3 +183,7 @@ priority_of t h spelled =
     let free = no_marks t h in
     let clean = all_both _ IsSpelled (task_sights t) (each_none (sight_marks (kind_of t.decls)) (task_sights t) free.sights) spelled.sights in
     let b = clean_bound (kind_of t.decls) t.priority 1000 clean.0 in record { some = b.0; most = b.1 }
+
+-- the core task of a task without marks can be built
+pub fitting_task : (t : Task) → task_marks t ≡ [] → IsSpelledTask t → TaskFits (core_task t)
+fitting_task t h spelled = task_fits t (no_marks t h) spelled

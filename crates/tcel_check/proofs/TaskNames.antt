@@ -1,15 +1,14 @@
--- What a sound task says of its names and its body.
+-- What a task that can be built says of its names and its body.
 use Rattle.std.proofs.Common.{◌≡◌, ◌≢◌, ℕ, ℤ, ◌+◌, ◌-◌, ◌<◌, ◌≤◌, List, [], ◌∷◌, ◌++◌, length, map, get_or, filter_map, refl, sym, ap, ◌∙◌, subst, arith, length-append}
 use Rattle.std.specs.Prelude.{All, AllPairs}
 use Rattle.std.specs.List.{AllByRecursion}
 use Rattle.std.proofs.lemmas.List.{get_or_append_left, get_or-append_right}
 use Rattle.std.proofs.lemmas.List.Elements.{All-from_recursion}
 use Rattle.tcel_core.specs.Language as core
-use Rattle.tcel_core.specs.Sound.{IsSoundTask}
 use Rattle.tcel_core.specs.declared.var.Var.{Var}
 use Rattle.tcel_tree.specs.Language.{Task}
 use Rattle.tcel_check.specs.Checked.{Numbered, core_block, core_task, first_numbers, numbered, vars_of}
-use Rattle.tcel_check.specs.Rooms.{BlockFits}
+use Rattle.tcel_check.specs.Rooms.{BlockFits, TaskFits}
 
 pairs_left : {A : Type 0} (R : A → A → Type 0) (xs ys : List A) → AllPairs R (xs ++ ys) → AllPairs R xs
 pairs_left R xs ys h i j d lt within =
@@ -25,7 +24,7 @@ pairs_right R xs ys h i j d lt within =
     let at_j : get_or (xs ++ ys) (length xs + j) d ≡ get_or ys j d = get_or-append_right xs ys (length xs) (length xs + j) d refl (omega arith) ∙ ap (λ (k : ℕ). get_or ys k d) more in
     rw (← at_i, ← at_j) (h (length xs + i) (length xs + j) d (omega arith) (omega arith))
 
-module _ (t : Task) (sound : IsSoundTask (core_task t)) where
+module _ (t : Task) (fits : TaskFits (core_task t)) where
   abbrev vars : List (List ℕ)
   vars = filter_map (λ (v : Var). v.name) (vars_of t.decls)
 
@@ -36,19 +35,19 @@ module _ (t : Task) (sound : IsSoundTask (core_task t)) where
   outputs = (numbered t.decls).outputs
 
   pub vars_differ : AllPairs ◌≢◌ vars
-  vars_differ = pairs_left ◌≢◌ vars (inputs ++ outputs) sound.declarations.distinct
+  vars_differ = pairs_left ◌≢◌ vars (inputs ++ outputs) fits.distinct
 
   pub inputs_differ : AllPairs ◌≢◌ inputs
-  inputs_differ = pairs_left ◌≢◌ inputs outputs (pairs_right ◌≢◌ vars (inputs ++ outputs) sound.declarations.distinct)
+  inputs_differ = pairs_left ◌≢◌ inputs outputs (pairs_right ◌≢◌ vars (inputs ++ outputs) fits.distinct)
 
   pub outputs_differ : AllPairs ◌≢◌ outputs
-  outputs_differ = pairs_right ◌≢◌ inputs outputs (pairs_right ◌≢◌ vars (inputs ++ outputs) sound.declarations.distinct)
+  outputs_differ = pairs_right ◌≢◌ inputs outputs (pairs_right ◌≢◌ vars (inputs ++ outputs) fits.distinct)
 
   pub few_names : (length vars + (length inputs + length outputs)) ≤ 256
-  few_names = let a = length-append vars (inputs ++ outputs) in let b = length-append inputs outputs in let most = sound.declarations.most in omega arith
+  few_names = let a = length-append vars (inputs ++ outputs) in let b = length-append inputs outputs in let most = fits.few in omega arith
 
   pub body_fits : BlockFits first_numbers (core_block t.body (numbered t.decls) first_numbers)
-  body_fits = record { bounded = sound.body.bounded; room = let few = sound.body.nodes in omega arith }
+  body_fits = record { bounded = fits.bounded; room = let few = fits.room in omega arith }
 
 -- a task, and numbered names, by their fields
 abbrev pub task_of : List ℕ → ℕ → ℕ → ℕ → List Var → List (List ℕ) → List (List ℕ) → core.Block → core.Task

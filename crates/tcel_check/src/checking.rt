@@ -17,12 +17,11 @@ use tcel_num::NoMemory;
 use tcel_tree::Program;
 
 /// The core tasks of a program, in falling priority, where no fault and no limit stands in it; else the first of these, by
-/// place and at one place by the table's order (docs/language.md). The program has a task, each outermost expression has at
-/// most 64 operators, and each operator as many operands as it takes.
+/// place and at one place by the table's order (docs/language.md). The set is sound where the program has a task, each of its
+/// outermost expressions at most 64 operators, and each operator as many operands as it takes: what a text gives is so.
 pub fn check(alloc: Global, program: &Program) -> Result<Set, CheckFail>
-    requires { IsCheckable (plain_program program.now) }
     ensures answers { Answers (plain_program program.now) result }
-    ensures sound { IfOk result (λ set. IsSoundSet (plain_set set)) }
+    ensures sound { IsCheckable (plain_program program.now) → IfOk result (λ set. IsSoundSet (plain_set set)) }
 {
     let tasks = program.tasks.as_slice();
     match first_mark(alloc, tasks) {

@@ -19,6 +19,8 @@ mod numbers;
 mod purpose;
 mod stmts;
 mod tasks;
+#[cfg(test)]
+mod tests;
 mod value_type;
 mod walk;
 
