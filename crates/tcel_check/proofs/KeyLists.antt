@@ -1,7 +1,7 @@
 -- Names are kept as keys in the order of their numbers.
-use Rattle.std.proofs.Common.{◌≡◌, ◌≢◌, ℕ, zero, suc, ◌+◌, ◌<◌, ◌≤◌, Bool, true, false, cond, ◌||◌, List, [], ◌∷◌, ◌++◌, length, length-take, take, get_or, Option, Some, None, refl, sym, ap, ◌∙◌, arith, nat_lt, nat_eq}
+use Rattle.std.proofs.Common.{◌≡◌, ◌≢◌, ℕ, suc, ◌+◌, ◌<◌, ◌≤◌, Bool, true, false, cond, ◌||◌, List, [], ◌∷◌, ◌++◌, length, length-take, take, get_or, Some, None, refl, sym, ap, ◌∙◌, arith, nat_lt, nat_eq}
 use Rattle.std.specs.Prelude.{AllPairs, position}
-use Rattle.std.specs.List.{list_any, position_or_len}
+use Rattle.std.specs.List.{list_any}
 use Rattle.std.proofs.lemmas.Bool.Decides.{nat_tests}
 use Rattle.std.proofs.lemmas.List.{take_more, get_or-take}
 use Rattle.std.specs.Cmp.Lexicographic.{pointwise}

@@ -19,6 +19,7 @@ pub mod SoundCounts
 pub mod SoundDecls
 pub mod SoundTasks
 pub mod SoundSets
+pub mod InScope
 pub mod KeyLists
 pub mod RoomLemmas
 pub mod TaskNames

@@ -1,5 +1,5 @@
 -- Bodies without faults are typed and within their bounds, and their loops hold no `do` block and are few enough.
-use Rattle.std.proofs.Common.{◌≡◌, ℕ, zero, suc, ◌+◌, ◌<◌, ◌≤◌, ◌^◌, max, length, Bool, true, false, List, [], ◌∷◌, ◌++◌, Option, Some, None, refl, sym, ap, ◌∙◌, subst, arith, option_map}
+use Rattle.std.proofs.Common.{◌≡◌, ℕ, ◌+◌, ◌<◌, ◌≤◌, ◌^◌, length, true, List, [], ◌∷◌, ◌++◌, Option, Some, None, refl, ap, ◌∙◌, subst, arith, option_map}
 use Rattle.std.specs.Prelude.{IfSome}
 use Rattle.std.specs.List.{AllByRecursion}
 use Rattle.std.proofs.lemmas.Bool.Decides.{nat_tests}
@@ -19,8 +19,8 @@ use Rattle.tcel_check.specs.declared.value_type.ValueType.{ValueType}
 use Rattle.tcel_check.specs.Answers.{IsFitExpr, block_exprs, stmt_exprs, branch_exprs}
 use Rattle.tcel_check.specs.Checked.{Numbers, core_block, core_branch, core_expr, core_stmt, core_window, behind_block, behind_if, behind_do, behind_stmt, in_loop, number_of, numbered, time_of, vars_of}
 use Rattle.tcel_check.specs.Rooms.{HasBounds, StmtHasBounds}
-use Rattle.tcel_check.specs.Rows.{has_type, same_decl, whole}
-use Rattle.tcel_check.specs.Sights.{Sight, block_sights, branch_sights, clause_sights, expr_sights, inside, stmt_sights, window_sights, node, name, loop, window, bound}
+use Rattle.tcel_check.specs.Rows.{has_type, same_decl}
+use Rattle.tcel_check.specs.Sights.{block_sights, branch_sights, clause_sights, expr_sights, inside, stmt_sights, window_sights, name, bound}
 use Rattle.tcel_check.specs.Types.{is_input, is_output, kind_of, named, scalar_type, type_of}
 use Rattle.tcel_check.proofs.Clean.{IsRight, clean_name, clean_window, clean_loop, clean_bound}
 use Rattle.tcel_check.proofs.Lists.{Unlike, all_left, all_right}

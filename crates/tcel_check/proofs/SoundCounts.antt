@@ -1,5 +1,5 @@
 -- The nodes and `do` blocks of a core body are no more than those of the sights.
-use Rattle.std.proofs.Common.{◌≡◌, ℕ, zero, suc, ◌+◌, ◌≤◌, List, [], ◌∷◌, ◌++◌, length, Option, Some, None, refl, sym, ap, ◌∙◌, arith, length-append}
+use Rattle.std.proofs.Common.{◌≡◌, ℕ, ◌+◌, ◌≤◌, List, [], ◌∷◌, ◌++◌, length, Option, Some, None, refl, ap, ◌∙◌, arith, length-append}
 use Rattle.std.specs.Prelude.{flat_map}
 use Rattle.std.proofs.lemmas.Grind.{flat_map-append}
 use Rattle.tcel_core.specs.Limits as limits
@@ -7,12 +7,12 @@ use Rattle.tcel_core.specs.Numbering.{do_numbers, stmt_do_numbers}
 use Rattle.tcel_tree.specs.declared.placed.Placed.{Placed}
 use Rattle.tcel_tree.specs.declared.stmt.Window.{Window}
 use Rattle.tcel_tree.specs.declared.task.DeclKind.{DeclKind}
-use Rattle.tcel_tree.specs.Language.{Expr, number, truth, variable, element, unary, binary, Block, done, next, Stmt, assign, assign_at, receive, send, choice, for_loop, while_loop, timed, Branch, absent, present}
-use Rattle.tcel_check.specs.declared.purpose.Purpose.TheVariants.{Scalar, Element, From, To}
+use Rattle.tcel_tree.specs.Language.{Block, done, next, Stmt, assign, assign_at, receive, send, choice, for_loop, while_loop, timed, Branch, absent, present}
+use Rattle.tcel_check.specs.declared.purpose.Purpose.TheVariants.{To}
 use Rattle.tcel_check.specs.declared.value_type.ValueType.{ValueType}
 use Rattle.tcel_check.specs.Checked.{Numbered, Numbers, in_loop, core_block, core_branch, core_stmt, behind_block, behind_if, behind_do, behind_stmt}
 use Rattle.tcel_check.specs.Rows.{window_places}
-use Rattle.tcel_check.specs.Sights.{Sight, block_sights, branch_sights, clause_sights, expr_sights, inside, stmt_sights, window_sights, node, name, loop, window, bound}
+use Rattle.tcel_check.specs.Sights.{Sight, block_sights, branch_sights, clause_sights, expr_sights, inside, stmt_sights, window_sights, name, bound}
 use Rattle.tcel_check.specs.Types.{type_of}
 use Rattle.tcel_check.proofs.SoundExprs.{count_append, expr_nodes, node_count}
 

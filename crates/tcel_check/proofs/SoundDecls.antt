@@ -1,10 +1,10 @@
 -- What a task declares is sound where its declarations have no fault.
-use Rattle.std.proofs.Common.{rules, ◌≡◌, ◌≢◌, ℕ, zero, suc, ◌+◌, ◌<◌, ◌≤◌, ℤ, pos, Bool, true, false, cond, ◌&&◌, not, List, [], ◌∷◌, ◌++◌, length, map, filter, filter_map, Option, Some, None, ◌⊎◌, inl, inr, ⊎_elim, refl, sym, ap, ◌∙◌, subst, arith, nat_le, nat_lt, unwrap_or, option_map, length-append}
-use Rattle.std.specs.Prelude.{All, AllPairs, FitsSigned, IsSome, flat_map}
+use Rattle.std.proofs.Common.{rules, ◌≡◌, ◌≢◌, ℕ, ◌+◌, ◌≤◌, ℤ, pos, Bool, true, false, cond, ◌&&◌, List, [], ◌∷◌, ◌++◌, length, map, filter, filter_map, Option, Some, None, inl, inr, ⊎_elim, refl, sym, ap, ◌∙◌, subst, arith, nat_le, nat_lt, unwrap_or, option_map, length-append}
+use Rattle.std.specs.Prelude.{All, FitsSigned, flat_map}
 use Rattle.std.specs.Int.{w64}
 use Rattle.std.specs.List.{AllByRecursion, cons_option}
 use Rattle.std.proofs.lemmas.Bool.Decides.{nat_tests}
-use Rattle.std.proofs.lemmas.List.{append-nil, map-append}
+use Rattle.std.proofs.lemmas.List.{append-nil}
 use Rattle.std.proofs.lemmas.List.Elements.{All-from_recursion, filter_map-append}
 use Rattle.tcel_num.specs.Arithmetic.{truth as truth_number}
 use Rattle.tcel_num.specs.Name.{IsName}
@@ -17,13 +17,13 @@ use Rattle.tcel_core.specs.Sound.{IsDeclared, IsFirstValue, is_local}
 use Rattle.tcel_tree.specs.declared.task.Decl.{Decl}
 use Rattle.tcel_tree.specs.declared.task.DeclKind.{DeclKind}
 use Rattle.tcel_tree.specs.declared.task.DeclKind.TheVariants.{Input, Output, Int, Bool as bools, Array}
-use Rattle.tcel_check.specs.Checked.{declared_var, first_of, keep_of, names_of_kind, numbered, var, var_of, vars_of}
-use Rattle.tcel_check.specs.Rows.{passing, same_decl, when, whole, words_of}
-use Rattle.tcel_check.specs.Sights.{length_sights, bound}
+use Rattle.tcel_check.specs.Checked.{declared_var, first_of, keep_of, names_of_kind, var, var_of, vars_of}
+use Rattle.tcel_check.specs.Rows.{passing, same_decl, when, words_of}
+use Rattle.tcel_check.specs.Sights.{length_sights}
 use Rattle.tcel_check.specs.Spelled.{IsSpelledDecl, IsSpelledKind}
 use Rattle.tcel_check.specs.Types.{is_input, is_output, kind_of, same_name}
 use Rattle.tcel_check.proofs.Clean.{clean_bound, clean_within}
-use Rattle.tcel_check.proofs.Lists.{In, From, all_left, all_right, Unlike, Pairwise, all_in, all_of, each_in, in_left, in_right, in_either, left_none, right_none, when_none, of_filter, only_one, pairs_all, pairs_append, passes}
+use Rattle.tcel_check.proofs.Lists.{In, all_left, all_right, Unlike, Pairwise, all_in, all_of, each_in, in_either, left_none, right_none, when_none, of_filter, only_one, pairs_append, passes}
 use Rattle.tcel_check.proofs.Walking.{all_append}
 use Rattle.tcel_check.proofs.Steps.{filter_append}
 use Rattle.tcel_check.proofs.NumberedNames.{var_from}

@@ -1,26 +1,24 @@
 -- Expressions without faults have the types that are wanted of them.
-use Rattle.std.proofs.Common.{◌≡◌, ℕ, ◌+◌, ℤ, pos, Bool, true, false, List, [], ◌∷◌, ◌++◌, length, Option, Some, None, ◌⊎◌, inl, inr, refl, sym, ap, ◌∙◌, subst, arith, length-append}
+use Rattle.std.proofs.Common.{◌≡◌, ℕ, ◌+◌, ℤ, pos, Bool, true, false, List, ◌∷◌, ◌++◌, length, Option, Some, None, ◌⊎◌, inl, inr, refl, ap, ◌∙◌, arith, length-append}
 use Rattle.std.specs.Prelude.{flat_map, FitsSigned}
 use Rattle.std.specs.Int.{w64}
 use Rattle.std.specs.List.{AllByRecursion}
 use Rattle.std.proofs.lemmas.Grind.{flat_map-append}
 use Rattle.tcel_num.specs.declared.at.At.{At}
 use Rattle.tcel_num.specs.Arithmetic.{truth as truth_number}
-use Rattle.tcel_core.specs.declared.var.Var.{Var}
 use Rattle.tcel_core.specs.Typing as core
 use Rattle.tcel_core.specs.Typing.{HasType, IsScalar, IsArray, operand_type, result_type}
 use Rattle.tcel_core.specs.Limits as limits
 use Rattle.tcel_tree.specs.declared.task.Decl.{Decl}
-use Rattle.tcel_tree.specs.declared.task.DeclKind.{DeclKind}
 use Rattle.tcel_tree.specs.Language.{Expr, number, truth, variable, element, unary, binary}
 use Rattle.tcel_check.specs.declared.purpose.Purpose.TheVariants.{Scalar, Element}
 use Rattle.tcel_check.specs.declared.value_type.ValueType.{ValueType}
 use Rattle.tcel_check.specs.Answers.{HaveOperands, operators}
-use Rattle.tcel_check.specs.Checked.{Numbered, core_expr, number_of, numbered, vars_of}
+use Rattle.tcel_check.specs.Checked.{Numbered, core_expr, numbered, vars_of}
 use Rattle.tcel_check.specs.Rows.{has_type, node_places, same_decl}
-use Rattle.tcel_check.specs.Sights.{Sight, node, literal, value, name, expr_sights}
+use Rattle.tcel_check.specs.Sights.{Sight, node, literal, value, expr_sights}
 use Rattle.tcel_check.specs.Types.{kind_of, is_wanted, named, scalar_type}
-use Rattle.tcel_check.proofs.Clean.{IsClean, IsRight, clean_value, clean_literal, clean_name, same_type}
+use Rattle.tcel_check.proofs.Clean.{IsClean, clean_value, clean_literal, clean_name, same_type}
 use Rattle.tcel_check.proofs.Lists.{Unlike, all_left, all_right}
 use Rattle.tcel_check.proofs.NumberedNames.{scalar_found, array_found}
 

@@ -1,24 +1,21 @@
 -- The core task of a task without faults is sound.
-use Rattle.std.proofs.Common.{◌≡◌, ◌≢◌, ℕ, ◌+◌, ◌≤◌, ◌^◌, List, [], ◌∷◌, ◌++◌, length, map, filter_map, Option, Some, None, refl, sym, ap, ◌∙◌, subst, arith, unwrap_or, slice_get}
-use Rattle.std.specs.Prelude.{All, AllPairs, flat_map}
+use Rattle.std.proofs.Common.{◌≡◌, ◌≢◌, ℕ, ◌≤◌, ◌^◌, List, [], ◌∷◌, ◌++◌, length, map, Option, Some, None, refl, arith, unwrap_or, slice_get}
+use Rattle.std.specs.Prelude.{flat_map}
 use Rattle.std.specs.List.{AllByRecursion}
-use Rattle.std.proofs.lemmas.List.{map-append}
 use Rattle.std.proofs.lemmas.List.Elements.{All-from_recursion}
 use Rattle.tcel_num.specs.declared.at.At.{At}
 use Rattle.tcel_num.specs.Name.{IsName}
-use Rattle.tcel_core.specs.declared.var.Var.{Var}
 use Rattle.tcel_core.specs.Limits.{IsTime}
-use Rattle.tcel_core.specs.Sound.{HasSoundBody, HasSoundDeclarations, IsPriority, IsSoundTask, declared_names}
+use Rattle.tcel_core.specs.Sound.{HasSoundBody, HasSoundDeclarations, IsPriority, IsSoundTask}
 use Rattle.tcel_tree.specs.declared.placed.Placed.{Placed}
 use Rattle.tcel_tree.specs.declared.task.Decl.{Decl}
-use Rattle.tcel_tree.specs.Language.{Expr, Task}
+use Rattle.tcel_tree.specs.Language.{Task}
 use Rattle.tcel_check.specs.declared.fail.LimitKind.{LimitKind}
 use Rattle.tcel_check.specs.declared.fail.LimitKind.TheVariants.{Variables, Nodes, Windows}
 use Rattle.tcel_check.specs.Answers.{IsFitExpr, block_exprs}
-use Rattle.tcel_check.specs.Checked.{core_block, core_task, first_numbers, numbered, time_of, vars_of}
+use Rattle.tcel_check.specs.Checked.{core_task, first_numbers, numbered, time_of}
 use Rattle.tcel_core.specs.Limits as limits
 use Rattle.tcel_check.specs.Rooms.{TaskFits}
-use Rattle.tcel_check.specs.Marks.{limit}
 use Rattle.tcel_check.specs.Rows.{at_decl, limit_at, many_names, many_nodes, many_windows, many_words, node_places, past, passing, repeats, same_decl, sight_marks, task_marks, task_sights, twice_mark, twice_names, whole, window_places, word_mark}
 use Rattle.tcel_check.specs.Sights.{Sight, block_sights, bound, clause_sights, head_sights, length_sights}
 use Rattle.tcel_check.specs.Spelled.{IsSpelled, IsSpelledTask}
@@ -28,7 +25,7 @@ use Rattle.tcel_check.proofs.Lists.{Unlike, all_both, all_left, all_right, each_
 use Rattle.tcel_check.proofs.SoundBlocks.{block_bounds, block_sound}
 use Rattle.tcel_check.proofs.SoundCounts.{blocks_kept, nodes_kept, windows_append}
 use Rattle.tcel_check.proofs.SoundDecls.{declared_in_order, names_distinct, names_in_order, names_length, names_named, vars_declared, vars_in_order, vars_words}
-use Rattle.tcel_check.proofs.SoundExprs.{Clean, node_count, count_append}
+use Rattle.tcel_check.proofs.SoundExprs.{Clean, count_append}
 use Rattle.tcel_check.proofs.SoundNumbers.{numbered_so}
 
 -- a limit that stands nowhere isn't passed

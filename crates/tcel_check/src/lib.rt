@@ -29,7 +29,3 @@ pub use examples::{bound_examples, limit_examples, name_examples, order_examples
 pub use fail::{CheckFail, CheckKind, LimitKind};
 pub use laws::set_laws;
 pub use mark::{Mark, Row};
-pub use names::Names;
-pub use purpose::Purpose;
-pub use value_type::{ValueType, operand_type, result_type};
-pub use walk::Walk;

@@ -162,9 +162,9 @@ fn task(
     Ok(Task {
         name: name(bytes)?,
         at: at(column),
-        priority: placed(column + 1, priority),
+        priority: placed(column, priority),
         decls,
-        period: placed(column + 2, 20),
+        period: placed(3, 20),
         finish: None,
         body,
     })

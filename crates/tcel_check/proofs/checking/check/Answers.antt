@@ -1,4 +1,4 @@
-use Rattle.std.proofs.Common.{◌≡◌, ◌∙◌, map, sym}
+use Rattle.std.proofs.Common.{map}
 use Rattle.tcel_tree.specs.Plain.{plain_program, plain_task}
 use Rattle.tcel_check.specs.Rooms.{TaskFits}
 use Rattle.tcel_check.specs.Answers.{IsCheckable}

@@ -1,8 +1,7 @@
-use Rattle.std.proofs.Common.{rules, ◌≡◌, ◌∷◌, ◌∙◌, ◌+◌, [], List, ap, drop, map, sym}
+use Rattle.std.proofs.Common.{rules, ◌≡◌, ◌∷◌, ◌∙◌, ◌+◌, [], ap, drop, map, sym}
 use Rattle.std.proofs.lemmas.List.{drop_more, drop_all}
 use Rattle.tcel_tree.specs.declared.stmt.Stmt.{Stmt, the_lemmas as stmt_lemmas}
 use Rattle.tcel_core.specs.Plain as core
-use Rattle.tcel_core.specs.declared.body.CoreStmt.{CoreStmt}
 use Rattle.tcel_core.proofs.PlainLaws.{plain_body-list}
 use Rattle.tcel_check.specs.Keys.{next_in, numbered_in}
 use Rattle.tcel_check.proofs.RoomLemmas.{build_more, built_if, fits_no, fits_yes, joined_done}

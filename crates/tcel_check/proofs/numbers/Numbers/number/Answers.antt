@@ -1,4 +1,4 @@
-use Rattle.std.proofs.Common.{sym, ◌∙◌}
+use Rattle.std.proofs.Common.{◌∙◌}
 use Rattle.tcel_check.specs.Keys.{keys}
 use Rattle.tcel_check.proofs.KeyLists.{none_behind}
 use Rattle.tcel_check.proofs.numbers.Numbers.number.Goals as goal
