@@ -1,19 +1,16 @@
 -- What is known of a sight without a fault.
-use Rattle.std.proofs.Common.{◌≡◌, ℕ, zero, suc, ◌<◌, ◌≤◌, ℤ, pos, negsuc, Bool, true, false, not, ◌&&◌, List, [], ◌++◌, Option, Some, None, refl, sym, ap, ◌∙◌, arith, nat_lt, nat_le, is_some}
-use Rattle.std.specs.Prelude.{FitsSigned, int_le}
-use Rattle.std.specs.Int.{w64}
+use Rattle.std.proofs.Common.{◌≡◌, ℕ, ◌<◌, ◌≤◌, ℤ, pos, negsuc, Bool, true, false, not, List, [], Option, Some, None, refl, arith, nat_lt, nat_le}
 use Rattle.std.proofs.lemmas.Bool.Decides.{nat_tests}
 use Rattle.tcel_num.specs.declared.at.At.{At}
-use Rattle.tcel_num.specs.Name.{IsName}
 use Rattle.tcel_core.specs.Typing as core
 use Rattle.tcel_tree.specs.declared.placed.Placed.{Placed}
 use Rattle.tcel_tree.specs.declared.task.DeclKind.{DeclKind}
-use Rattle.tcel_check.specs.declared.fail.CheckKind.TheVariants.{Unknown, WrongType, NotAPort, WindowInLoop, LoopDepth, BadBound}
+use Rattle.tcel_check.specs.declared.fail.CheckKind.TheVariants.{WrongType, WindowInLoop, LoopDepth, BadBound}
 use Rattle.tcel_check.specs.declared.purpose.Purpose.{Purpose}
 use Rattle.tcel_check.specs.declared.value_type.ValueType.{ValueType}
 use Rattle.tcel_check.specs.Marks.{fault}
-use Rattle.tcel_check.specs.Rows.{when, sight_marks, unknown_name, wrong_type, not_a_port, if_declared, is_of_type, is_port, is_within, whole}
-use Rattle.tcel_check.specs.Sights.{Sight, node, literal, value, name, window, loop, bound}
+use Rattle.tcel_check.specs.Rows.{when, sight_marks, unknown_name, wrong_type, not_a_port, is_of_type, is_port, is_within, whole}
+use Rattle.tcel_check.specs.Sights.{Sight, literal, value, name, window, loop, bound}
 use Rattle.tcel_check.specs.Spelled.{IsSpelled}
 use Rattle.tcel_check.specs.Types.{is_wanted, named}
 use Rattle.tcel_check.proofs.Lists.{left_none, right_none, when_none}
@@ -72,8 +69,11 @@ module _ (kind : List ℕ → Option DeclKind) where
       let none : nat_le 3 loops ≡ false = when_none _ _ (left_none (when (nat_le 3 loops) (fault LoopDepth at)) [] h.0) in
       grind (arith, nat_tests)
 
+  pub clean_within : (n : Placed) (most : ℕ) → IsClean (bound n most) → is_within n.value most ≡ true
+  clean_within n most h = not_false (is_within n.value most) (when_none (not (is_within n.value most)) (fault BadBound n.at) h.0)
+
   pub clean_bound : (n : Placed) (most : ℕ) → IsClean (bound n most) → (1 ≤ whole n.value) × (whole n.value ≤ most)
-  clean_bound n most h = within n.value (not_false (is_within n.value most) (when_none (not (is_within n.value most)) (fault BadBound n.at) h.0))
+  clean_bound n most h = within n.value (clean_within n most h)
     where
       within : (z : ℤ) → is_within z most ≡ true → (1 ≤ whole z) × (whole z ≤ most)
       within (pos m) h = grind (arith, nat_tests)

@@ -1,5 +1,5 @@
 -- What a walk keeps is the first of all marks of the sights that it saw.
-use Rattle.std.proofs.Common.{◌≡◌, ℕ, zero, suc, ◌-◌, Bool, true, false, List, [], ◌∷◌, ◌++◌, Option, Some, None, refl, sym, ap, ◌∙◌, arith, append_assoc, slice_get, ◌==◌}
+use Rattle.std.proofs.Common.{◌≡◌, ℕ, zero, suc, ◌-◌, false, List, [], ◌∷◌, ◌++◌, Option, refl, sym, ap, arith, append_assoc, ◌==◌}
 use Rattle.std.specs.Prelude.{flat_map}
 use Rattle.std.specs.List.{fold}
 use Rattle.std.proofs.lemmas.Bool.Decides.{nat_tests}
@@ -10,12 +10,11 @@ use Rattle.tcel_check.specs.declared.fail.LimitKind.{LimitKind}
 use Rattle.tcel_check.specs.declared.fail.LimitKind.TheVariants.{Nodes, Windows}
 use Rattle.tcel_check.specs.declared.mark.Mark.{Mark}
 use Rattle.tcel_check.specs.declared.walk.Walk.{Walk}
-use Rattle.tcel_check.specs.Least.{Adds, kept_all}
-use Rattle.tcel_check.specs.Marks.{limit}
+use Rattle.tcel_check.specs.Least.{Adds}
 use Rattle.tcel_check.specs.Rows.{past, node_places, window_places, sight_marks}
 use Rattle.tcel_check.specs.Sights.{Sight, node, literal, value, name, window, loop, bound}
 use Rattle.tcel_check.specs.Walks.{behind, counted, last, nodes_behind, windows_behind}
-use Rattle.tcel_check.proofs.Firsts.{Same, same_self, same_sym, same_of, same_then, same_append, same_middle, same_swap, adds_all, adds_then, adds_none, adds_same}
+use Rattle.tcel_check.proofs.Firsts.{Same, same_self, same_of, same_then, same_append, same_middle, adds_all, adds_then, adds_none, adds_same}
 
 -- where the last of so many may come
 abbrev past_left : LimitKind → ℕ → List At → List Mark

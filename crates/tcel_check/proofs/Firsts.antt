@@ -1,10 +1,10 @@
 -- The first mark of a list: of which marks it is the first, and not how they came.
-use Rattle.std.proofs.Common.{◌≡◌, ℕ, zero, suc, ◌<◌, ⊎_elim, Bool, true, false, List, [], ◌∷◌, ◌++◌, Option, Some, None, ◌⊎◌, inl, inr, Contains, refl, sym, subst, ap, ◌∙◌, arith, append_assoc, nat_lt}
+use Rattle.std.proofs.Common.{◌≡◌, zero, suc, ⊎_elim, Bool, true, false, List, [], ◌∷◌, ◌++◌, Option, Some, None, Contains, refl, sym, subst, arith, append_assoc}
 use Rattle.std.proofs.lemmas.Bool.Decides.{nat_tests}
 use Rattle.std.proofs.lemmas.List.{append-nil}
 use Rattle.std.proofs.lemmas.List.Elements.{Contains-append_left, Contains-append_right, Contains-append_cases, Contains-push, Contains-push_cases}
 use Rattle.tcel_check.specs.declared.mark.Mark.{Mark}
-use Rattle.tcel_check.specs.Marks.{IsFirst, precedes, rank}
+use Rattle.tcel_check.specs.Marks.{IsFirst, precedes}
 use Rattle.tcel_check.specs.Least.{Adds, kept, kept_all}
 
 pub precedes_asym : (a b : Mark) → precedes a b ≡ true → precedes b a ≡ false

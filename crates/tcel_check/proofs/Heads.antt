@@ -1,5 +1,5 @@
 -- Rows of the table that a walk over a list meets one element at a time.
-use Rattle.std.proofs.Common.{◌≡◌, ℕ, zero, suc, ◌+◌, ◌<◌, ◌≤◌, Bool, true, false, ◌||◌, ◌&&◌, List, [], ◌∷◌, ◌++◌, length, map, take, drop, get_or, Option, Some, None, refl, sym, subst, ap, ◌∙◌, arith, append_assoc, nat_le, nat_lt, slice_get, option_map, not, cond}
+use Rattle.std.proofs.Common.{◌≡◌, ℕ, ◌+◌, ◌<◌, ◌≤◌, Bool, true, false, ◌||◌, List, [], ◌∷◌, ◌++◌, map, Option, refl, sym, ap, ◌∙◌, arith, append_assoc, nat_le, nat_lt, slice_get, option_map, not, cond}
 use Rattle.std.specs.List.{list_any}
 use Rattle.std.proofs.lemmas.Bool.Decides.{nat_tests}
 use Rattle.std.proofs.lemmas.List.{append-nil, map-append}
@@ -11,7 +11,7 @@ use Rattle.tcel_check.specs.declared.fail.LimitKind.{LimitKind}
 use Rattle.tcel_check.specs.declared.mark.Mark.{Mark}
 use Rattle.tcel_check.specs.Least.{Adds, kept_all}
 use Rattle.tcel_check.specs.Rows.{when, limit_at, past, repeats, repeats_behind, passing, word_mark, words_of}
-use Rattle.tcel_check.proofs.Firsts.{adds_all, adds_then, adds_none, adds_same, same_of}
+use Rattle.tcel_check.proofs.Firsts.{adds_all, adds_then}
 
 -- the element with a number, and where it stands
 pub past_map : {A : Type 0} (kind : LimitKind) (place : A → At) (n : ℕ) (xs : List A) → past kind n (map place xs) ≡ limit_at kind (option_map place (slice_get xs n))

@@ -1,9 +1,7 @@
 -- The number of a declared name is that of its variable, or within those of its ports.
-use Rattle.std.proofs.Common.{◌≡◌, ℕ, zero, suc, ◌+◌, ◌<◌, ℤ, Bool, true, false, cond, ◌||◌, List, [], ◌∷◌, ◌++◌, length, map, filter, filter_map, Option, Some, None, ◌⊎◌, inl, inr, ⊎_elim, refl, sym, ap, ◌∙◌, subst, arith, slice_get}
+use Rattle.std.proofs.Common.{◌≡◌, ℕ, suc, ◌+◌, ◌<◌, Bool, true, false, cond, List, [], ◌∷◌, length, map, filter, filter_map, Option, Some, None, ◌⊎◌, inl, inr, ⊎_elim, refl, sym, ap, ◌∙◌, subst, arith, slice_get}
 use Rattle.std.specs.List.{position_or_len, cons_option}
-use Rattle.tcel_core.specs.declared.var.Keep.{Keep}
 use Rattle.tcel_core.specs.declared.var.Var.{Var}
-use Rattle.tcel_core.specs.declared.var.VarKind.{VarKind}
 use Rattle.tcel_core.specs.Frames.{is_state}
 use Rattle.tcel_core.specs.Sound.{is_local}
 use Rattle.tcel_core.specs.Typing as core
@@ -11,10 +9,9 @@ use Rattle.tcel_core.specs.Typing.{IsScalar, IsArray}
 use Rattle.tcel_tree.specs.declared.task.Decl.{Decl}
 use Rattle.tcel_tree.specs.declared.task.DeclKind.{DeclKind}
 use Rattle.tcel_tree.specs.declared.task.DeclKind.TheVariants.{Input, Output, Int, Bool as bools, Array}
-use Rattle.tcel_check.specs.declared.value_type.ValueType.{ValueType}
 use Rattle.tcel_check.specs.Checked.{var_of, declared_var, vars_of, names_of_kind, number_of, numbered, keep_of}
 use Rattle.tcel_check.specs.Rows.{same_decl}
-use Rattle.tcel_check.specs.Types.{same_name, kind_of, scalar_type, is_array, is_input, is_output, named}
+use Rattle.tcel_check.specs.Types.{same_name, kind_of, scalar_type, is_array, named}
 use Rattle.tcel_check.proofs.Lists.{In, in_left, in_right, in_either, in_filter, of_filter, in_filter_map, of_filter_map, From, Unlike, only_one}
 use Rattle.tcel_check.proofs.SameNames.{name_equal, name_sym, name_self}
 

@@ -1,5 +1,5 @@
 -- Statements are seen piece by piece.
-use Rattle.std.proofs.Common.{◌≡◌, ℕ, ◌+◌, ◌<◌, List, [], ◌∷◌, ◌++◌, Option, Some, None, length, get_or, map, take, option_map, refl, sym, ap, ◌∙◌, append_assoc}
+use Rattle.std.proofs.Common.{◌≡◌, ℕ, ◌+◌, ◌<◌, List, [], ◌∷◌, ◌++◌, Option, Some, None, length, get_or, map, take, sym, ap, ◌∙◌, append_assoc}
 use Rattle.std.proofs.lemmas.List.{append-nil, map_more}
 use Rattle.tcel_num.specs.declared.at.At.{At}
 use Rattle.tcel_tree.specs.declared.expr.Expr as tree
@@ -8,7 +8,7 @@ use Rattle.tcel_tree.specs.declared.stmt.Stmt as tree_stmt
 use Rattle.tcel_tree.specs.declared.stmt.StmtKind.TheVariants.{Assign, AssignAt, Receive, Send, If, For, While, Do}
 use Rattle.tcel_tree.specs.declared.stmt.Window.{Window}
 use Rattle.tcel_tree.specs.declared.task.DeclKind.{DeclKind}
-use Rattle.tcel_tree.specs.Language.{Stmt, next, done}
+use Rattle.tcel_tree.specs.Language.{Stmt}
 use Rattle.tcel_tree.specs.Plain.{plain_expr, plain_stmt, plain_block, block_of}
 use Rattle.tcel_check.specs.declared.purpose.Purpose.TheVariants.{Scalar, Element, From, To}
 use Rattle.tcel_check.specs.declared.value_type.ValueType.{ValueType}

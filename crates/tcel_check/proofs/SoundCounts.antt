@@ -1,5 +1,5 @@
 -- The nodes and `do` blocks of a core body are no more than those of the sights.
-use Rattle.std.proofs.Common.{◌≡◌, ℕ, zero, suc, ◌+◌, ◌≤◌, List, [], ◌∷◌, ◌++◌, length, Option, Some, None, refl, sym, ap, ◌∙◌, arith, length-append}
+use Rattle.std.proofs.Common.{◌≡◌, ℕ, ◌+◌, ◌≤◌, List, [], ◌∷◌, ◌++◌, length, Option, Some, None, refl, ap, ◌∙◌, arith, length-append}
 use Rattle.std.specs.Prelude.{flat_map}
 use Rattle.std.proofs.lemmas.Grind.{flat_map-append}
 use Rattle.tcel_core.specs.Limits as limits
@@ -7,12 +7,12 @@ use Rattle.tcel_core.specs.Numbering.{do_numbers, stmt_do_numbers}
 use Rattle.tcel_tree.specs.declared.placed.Placed.{Placed}
 use Rattle.tcel_tree.specs.declared.stmt.Window.{Window}
 use Rattle.tcel_tree.specs.declared.task.DeclKind.{DeclKind}
-use Rattle.tcel_tree.specs.Language.{Expr, number, truth, variable, element, unary, binary, Block, done, next, Stmt, assign, assign_at, receive, send, choice, for_loop, while_loop, timed, Branch, absent, present}
-use Rattle.tcel_check.specs.declared.purpose.Purpose.TheVariants.{Scalar, Element, From, To}
+use Rattle.tcel_tree.specs.Language.{Block, done, next, Stmt, assign, assign_at, receive, send, choice, for_loop, while_loop, timed, Branch, absent, present}
+use Rattle.tcel_check.specs.declared.purpose.Purpose.TheVariants.{To}
 use Rattle.tcel_check.specs.declared.value_type.ValueType.{ValueType}
 use Rattle.tcel_check.specs.Checked.{Numbered, Numbers, in_loop, core_block, core_branch, core_stmt, behind_block, behind_if, behind_do, behind_stmt}
 use Rattle.tcel_check.specs.Rows.{window_places}
-use Rattle.tcel_check.specs.Sights.{Sight, block_sights, branch_sights, clause_sights, expr_sights, inside, stmt_sights, window_sights, node, name, loop, window, bound}
+use Rattle.tcel_check.specs.Sights.{Sight, block_sights, branch_sights, clause_sights, expr_sights, inside, stmt_sights, window_sights, name, bound}
 use Rattle.tcel_check.specs.Types.{type_of}
 use Rattle.tcel_check.proofs.SoundExprs.{count_append, expr_nodes, node_count}
 
@@ -32,6 +32,12 @@ window_count w =
 -- a sight that is a node, and one that is none
 node_more : (s : Sight) (ss : List Sight) (n : ℕ) → node_count (s ∷ []) ≡ n → node_count (s ∷ ss) ≡ n + node_count ss
 node_more s ss n is = let all = count_append (s ∷ []) ss in omega arith
+
+abbrev pub windows_in : List Sight → ℕ
+windows_in ss = length (flat_map window_places ss)
+
+pub windows_append : (xs ys : List Sight) → windows_in (xs ++ ys) ≡ windows_in xs + windows_in ys
+windows_append xs ys = ap length (flat_map-append window_places xs ys) ∙ length-append (flat_map window_places xs) (flat_map window_places ys)
 
 module _ (kind : List ℕ → Option DeclKind) (names : Numbered) where
   mutual
@@ -71,12 +77,6 @@ module _ (kind : List ℕ → Option DeclKind) (names : Numbered) where
     branch_nodes : (b : Branch) (loops : ℕ) (n : Numbers) → limits.nodes (core_branch b names n) ≡ node_count (branch_sights b kind loops)
     branch_nodes absent loops n = refl
     branch_nodes (present b) loops n = nodes_kept b loops n
-
-  abbrev pub windows_in : List Sight → ℕ
-  windows_in ss = length (flat_map window_places ss)
-
-  windows_append : (xs ys : List Sight) → windows_in (xs ++ ys) ≡ windows_in xs + windows_in ys
-  windows_append xs ys = ap length (flat_map-append window_places xs ys) ∙ length-append (flat_map window_places xs) (flat_map window_places ys)
 
   mutual
     pub blocks_kept : (b : Block) (loops : ℕ) (n : Numbers) → length (do_numbers (core_block b names n)) ≤ windows_in (block_sights b kind loops)

@@ -1,30 +1,28 @@
 -- Expressions without faults have the types that are wanted of them.
-use Rattle.std.proofs.Common.{◌≡◌, ℕ, ◌+◌, ℤ, pos, Bool, true, false, List, [], ◌∷◌, ◌++◌, length, Option, Some, None, ◌⊎◌, inl, inr, refl, sym, ap, ◌∙◌, subst, arith, length-append}
+use Rattle.std.proofs.Common.{◌≡◌, ℕ, ◌+◌, ℤ, pos, Bool, true, false, List, ◌∷◌, ◌++◌, length, Option, Some, None, ◌⊎◌, inl, inr, refl, ap, ◌∙◌, arith, length-append}
 use Rattle.std.specs.Prelude.{flat_map, FitsSigned}
 use Rattle.std.specs.Int.{w64}
 use Rattle.std.specs.List.{AllByRecursion}
 use Rattle.std.proofs.lemmas.Grind.{flat_map-append}
 use Rattle.tcel_num.specs.declared.at.At.{At}
 use Rattle.tcel_num.specs.Arithmetic.{truth as truth_number}
-use Rattle.tcel_core.specs.declared.var.Var.{Var}
 use Rattle.tcel_core.specs.Typing as core
 use Rattle.tcel_core.specs.Typing.{HasType, IsScalar, IsArray, operand_type, result_type}
 use Rattle.tcel_core.specs.Limits as limits
 use Rattle.tcel_tree.specs.declared.task.Decl.{Decl}
-use Rattle.tcel_tree.specs.declared.task.DeclKind.{DeclKind}
 use Rattle.tcel_tree.specs.Language.{Expr, number, truth, variable, element, unary, binary}
 use Rattle.tcel_check.specs.declared.purpose.Purpose.TheVariants.{Scalar, Element}
 use Rattle.tcel_check.specs.declared.value_type.ValueType.{ValueType}
 use Rattle.tcel_check.specs.Answers.{HaveOperands, operators}
-use Rattle.tcel_check.specs.Checked.{Numbered, core_expr, number_of, numbered, vars_of}
+use Rattle.tcel_check.specs.Checked.{Numbered, core_expr, numbered, vars_of}
 use Rattle.tcel_check.specs.Rows.{has_type, node_places, same_decl}
-use Rattle.tcel_check.specs.Sights.{Sight, node, literal, value, name, expr_sights}
+use Rattle.tcel_check.specs.Sights.{Sight, node, literal, value, expr_sights}
 use Rattle.tcel_check.specs.Types.{kind_of, is_wanted, named, scalar_type}
-use Rattle.tcel_check.proofs.Clean.{IsClean, IsRight, clean_value, clean_literal, clean_name, same_type}
+use Rattle.tcel_check.proofs.Clean.{IsClean, clean_value, clean_literal, clean_name, same_type}
 use Rattle.tcel_check.proofs.Lists.{Unlike, all_left, all_right}
 use Rattle.tcel_check.proofs.NumberedNames.{scalar_found, array_found}
 
-truth_fits : (b : Bool) → (truth_number b ≡ pos 0) ⊎ (truth_number b ≡ pos 1)
+pub truth_fits : (b : Bool) → (truth_number b ≡ pos 0) ⊎ (truth_number b ≡ pos 1)
 truth_fits true = inr refl
 truth_fits false = inl refl
 
@@ -59,19 +57,25 @@ module _ (ds : List Decl) (unlike : Unlike same_decl ds) where
       let right = clean_name (kind_of ds) at x (Scalar (Some (named type))) h.1.0 in
       scalar_found ds unlike x right.kind right.known type (scalar_wanted (scalar_type right.kind) type right.typed)
   expr_typed (element at x i) type h operands =
-      let right = clean_name (kind_of ds) at x Element h.1.0 in
-      (same_type core.int type (clean_value (kind_of ds) at ValueType.Int (Some (named type)) h.1.1.0),
-      array_found ds unlike x right.kind right.known right.typed, expr_typed i core.int h.1.1.1 operands)
-  expr_typed (unary at op e) type h operands =
-      (operands.0, same_type (result_type op) type (clean_value (kind_of ds) at (named (result_type op)) (Some (named type)) h.1.0),
-      expr_typed e (operand_type op) h.1.1 operands.1)
+      let right = clean_name (kind_of ds) at x Element h.1.0 in (
+        same_type core.int type (clean_value (kind_of ds) at ValueType.Int (Some (named type)) h.1.1.0),
+        array_found ds unlike x right.kind right.known right.typed,
+        expr_typed i core.int h.1.1.1 operands,
+      )
+  expr_typed (unary at op e) type h operands = (
+    operands.0,
+    same_type (result_type op) type (clean_value (kind_of ds) at (named (result_type op)) (Some (named type)) h.1.0),
+    expr_typed e (operand_type op) h.1.1 operands.1,
+  )
   expr_typed (binary at op a b) type h operands =
       let front = expr_sights a (Some (named (operand_type op))) in
       let back = node at ∷ value at (named (result_type op)) (Some (named type)) ∷ expr_sights b (Some (named (operand_type op))) in
-      let rest = all_right (Clean ds) front back h in
-      (operands.0, same_type (result_type op) type (clean_value (kind_of ds) at (named (result_type op)) (Some (named type)) rest.1.0),
-      expr_typed a (operand_type op) (all_left (Clean ds) front back h) operands.1,
-      expr_typed b (operand_type op) rest.1.1 operands.2)
+      let rest = all_right (Clean ds) front back h in (
+        operands.0,
+        same_type (result_type op) type (clean_value (kind_of ds) at (named (result_type op)) (Some (named type)) rest.1.0),
+        expr_typed a (operand_type op) (all_left (Clean ds) front back h) operands.1,
+        expr_typed b (operand_type op) rest.1.1 operands.2,
+      )
 
 -- each node of an expression is a node of the core expression
 abbrev pub node_count : List Sight → ℕ

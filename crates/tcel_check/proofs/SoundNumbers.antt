@@ -1,23 +1,9 @@
 -- Statements of core bodies are numbered as they are to be, and their nodes and `do` blocks are those of the sights.
-use Rattle.std.proofs.Common.{◌≡◌, ℕ, zero, suc, ◌+◌, ◌≤◌, List, [], ◌∷◌, ◌++◌, length, Option, Some, None, refl, sym, ap, ◌∙◌, subst, arith, length-append}
-use Rattle.std.specs.Prelude.{flat_map}
-use Rattle.std.proofs.lemmas.Grind.{flat_map-append}
-use Rattle.std.proofs.lemmas.List.{append-nil}
-use Rattle.tcel_core.specs.Language as core
-use Rattle.tcel_core.specs.Limits as limits
+use Rattle.std.proofs.Common.{◌≡◌, ℕ, zero, suc, ◌+◌, List, [], ◌∷◌, ◌++◌, length, refl, sym, ap, ◌∙◌, subst, arith, length-append}
 use Rattle.tcel_core.specs.Numbering.{IsNumbered, IsUnnumbered, StmtIsUnnumbered, LoopsAreUnnumbered, StmtLoopsAreUnnumbered, numbers_from, item_numbers, stmt_item_numbers, if_numbers, stmt_if_numbers, do_numbers, stmt_do_numbers}
 use Rattle.tcel_core.specs.Scope.{IsUntimed, StmtIsUntimed, LoopsAreUntimed, StmtLoopsAreUntimed}
-use Rattle.tcel_num.specs.declared.at.At.{At}
-use Rattle.tcel_tree.specs.declared.stmt.Window.{Window}
-use Rattle.tcel_tree.specs.declared.placed.Placed.{Placed}
-use Rattle.tcel_tree.specs.declared.task.DeclKind.{DeclKind}
-use Rattle.tcel_tree.specs.Language.{Expr, Block, done, next, Stmt, assign, assign_at, receive, send, choice, for_loop, while_loop, timed, Branch, absent, present}
-use Rattle.tcel_check.specs.declared.value_type.ValueType.{ValueType}
-use Rattle.tcel_check.specs.Checked.{Numbered, Numbers, outside, in_loop, core_block, core_branch, core_expr, core_stmt, behind_block, behind_branch, behind_if, behind_do, behind_item, behind_stmt, item_number, if_number, do_number, first_numbers}
-use Rattle.tcel_check.specs.Rows.{node_places, window_places}
-use Rattle.tcel_check.specs.Sights.{Sight, block_sights, branch_sights, clause_sights, expr_sights, inside, stmt_sights, window_sights, node, name, loop, window, bound}
-use Rattle.tcel_check.specs.Types.{type_of}
-use Rattle.tcel_check.proofs.SoundExprs.{count_append, expr_nodes, node_count}
+use Rattle.tcel_tree.specs.Language.{Block, done, next, Stmt, assign, assign_at, receive, send, choice, for_loop, while_loop, timed, Branch, absent, present}
+use Rattle.tcel_check.specs.Checked.{Numbered, Numbers, outside, in_loop, core_block, core_branch, core_stmt, behind_block, behind_branch, behind_if, behind_do, behind_item, behind_stmt, item_number, if_number, do_number, first_numbers}
 
 mutual
   stays : (b : Block) → behind_block b in_loop ≡ in_loop
@@ -94,20 +80,23 @@ module _ (names : Numbered) where
   mutual
     unnumbered : (b : Block) → IsUntimed (core_block b names in_loop) → IsUnnumbered (core_block b names in_loop)
     unnumbered done h = tt
-    unnumbered (next s rest) h =
-        (stmt_unnumbered s h.0,
-        subst (λ (n : Numbers). IsUnnumbered (core_block rest names n)) (sym (stmt_stays s))
-        (unnumbered rest (subst (λ (n : Numbers). IsUntimed (core_block rest names n)) (stmt_stays s) h.1)))
+    unnumbered (next s rest) h = (
+      stmt_unnumbered s h.0,
+      subst (λ (n : Numbers). IsUnnumbered (core_block rest names n)) (sym (stmt_stays s))
+          (unnumbered rest (subst (λ (n : Numbers). IsUntimed (core_block rest names n)) (stmt_stays s) h.1)),
+    )
 
     stmt_unnumbered : (s : Stmt) → StmtIsUntimed (core_stmt s names in_loop) → StmtIsUnnumbered (core_stmt s names in_loop)
     stmt_unnumbered (assign at x e) h = (refl, tt)
     stmt_unnumbered (assign_at at x i e) h = (refl, tt)
     stmt_unnumbered (receive at x x_at port port_at) h = (refl, tt)
     stmt_unnumbered (send at e port port_at) h = (refl, tt)
-    stmt_unnumbered (choice at test held other) h =
-        (refl, unnumbered held h.0,
-        subst (λ (n : Numbers). IsUnnumbered (core_branch other names n)) (sym (stays held))
-        (branch_unnumbered other (subst (λ (n : Numbers). IsUntimed (core_branch other names n)) (stays held) h.1)))
+    stmt_unnumbered (choice at test held other) h = (
+      refl,
+      unnumbered held h.0,
+      subst (λ (n : Numbers). IsUnnumbered (core_branch other names n)) (sym (stays held))
+          (branch_unnumbered other (subst (λ (n : Numbers). IsUntimed (core_branch other names n)) (stays held) h.1)),
+    )
     stmt_unnumbered (for_loop at x x_at turns body) h = (refl, unnumbered body h)
     stmt_unnumbered (while_loop at test turns body) h = (refl, unnumbered body h)
     stmt_unnumbered (timed at w body) h = elim h [ ]

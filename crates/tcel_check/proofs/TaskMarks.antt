@@ -1,5 +1,5 @@
 -- The marks of a task, from those of its parts.
-use Rattle.std.proofs.Common.{◌≡◌, ℕ, List, [], ◌∷◌, ◌++◌, Option, map, refl, sym, ap, ◌∙◌, append_assoc}
+use Rattle.std.proofs.Common.{◌≡◌, ℕ, List, ◌++◌, Option, sym, append_assoc}
 use Rattle.std.proofs.Math.Path.{fun_ext}
 use Rattle.std.specs.Prelude.{flat_map}
 use Rattle.tcel_tree.specs.declared.task.DeclKind.{DeclKind}
@@ -8,8 +8,7 @@ use Rattle.tcel_check.specs.declared.mark.Mark.{Mark}
 use Rattle.tcel_check.specs.declared.walk.Walk.{Walk}
 use Rattle.tcel_check.specs.Least.{Adds}
 use Rattle.tcel_check.specs.Rows.{many_names, many_words, many_nodes, many_windows, twice_names, task_marks, task_sights, sight_marks}
-use Rattle.tcel_check.specs.Sights.{Sight, head_sights, block_sights}
-use Rattle.tcel_check.specs.Spelled.{IsSpelled}
+use Rattle.tcel_check.specs.Sights.{head_sights, block_sights}
 use Rattle.tcel_check.specs.Types.{kind_of}
 use Rattle.tcel_check.specs.Walks.{Saw}
 use Rattle.tcel_check.proofs.Counting.{saw_all}

@@ -1,5 +1,5 @@
 -- Programs on which the table of faults and the core tasks are worked out.
-use Rattle.std.specs.Prelude.{ℕ, zero, suc, ◌+◌, ℤ, pos, negsuc, Bool, true, false, List, [], ◌∷◌, ◌++◌, Option, Some, None, codes, replicate, map}
+use Rattle.std.specs.Prelude.{ℕ, zero, suc, ◌+◌, pos, negsuc, true, false, List, [], ◌∷◌, Option, Some, None, codes, replicate, map}
 use Rattle.tcel_num.specs.declared.at.At.{At}
 use Rattle.tcel_num.specs.declared.op.Op.{Op}
 use Rattle.tcel_core.specs.declared.var.Keep.{Keep}
@@ -11,9 +11,9 @@ use Rattle.tcel_tree.specs.declared.placed.Placed.{Placed}
 use Rattle.tcel_tree.specs.declared.stmt.Window.{Window}
 use Rattle.tcel_tree.specs.declared.task.Decl.{Decl}
 use Rattle.tcel_tree.specs.declared.task.DeclKind.{DeclKind}
-use Rattle.tcel_tree.specs.Language.{Expr, number, truth, variable, element, unary, binary, Block, done, next, Stmt, assign, assign_at, receive, send, choice, for_loop, while_loop, timed, Branch, absent, present, Task}
+use Rattle.tcel_tree.specs.Language.{Expr, number, truth, variable, binary, Block, done, next, Stmt, assign, assign_at, receive, send, choice, for_loop, while_loop, timed, absent, present, Task}
 use Rattle.tcel_check.specs.declared.mark.Mark.{Mark}
-use Rattle.tcel_check.specs.Rows.{marks, task_marks}
+use Rattle.tcel_check.specs.Rows.{task_marks}
 
 -- places on one line
 abbrev pub at : ℕ → At

@@ -1,5 +1,5 @@
 -- The first mark so far.
-use Rattle.std.specs.Prelude.{List, [], ◌∷◌, ◌++◌, Option, Some, None, if◌then◌else◌, fold}
+use Rattle.std.specs.Prelude.{List, ◌++◌, Option, Some, None, if◌then◌else◌, fold}
 use Rattle.tcel_check.specs.declared.mark.Mark.{Mark}
 use Rattle.tcel_check.specs.Marks.{IsFirst, precedes}
 

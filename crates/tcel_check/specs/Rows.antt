@@ -3,7 +3,6 @@ use Rattle.std.specs.Prelude.{ℕ, ◌+◌, ℤ, pos, negsuc, ◌&&◌, Bool, tr
 use Rattle.std.specs.List.{list_any}
 use Rattle.std.specs.Ordering.{int_eq}
 use Rattle.tcel_num.specs.declared.at.At.{At}
-use Rattle.tcel_tree.specs.declared.placed.Placed.{Placed}
 use Rattle.tcel_tree.specs.declared.task.Decl.{Decl}
 use Rattle.tcel_tree.specs.declared.task.DeclKind.{DeclKind}
 use Rattle.tcel_tree.specs.declared.task.DeclKind.TheVariants.{Input, Output, Array}

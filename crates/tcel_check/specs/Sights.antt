@@ -1,7 +1,6 @@
 -- What stands in a task, in text order: each node, name, number, `do` and loop, with what the table of faults asks of it.
-use Rattle.std.specs.Prelude.{ℕ, ◌+◌, ◌^◌, ℤ, Bool, List, [], ◌∷◌, ◌++◌, Option, Some, None, if◌then◌else◌, nat_lt, flat_map}
+use Rattle.std.specs.Prelude.{ℕ, ◌+◌, ◌^◌, ℤ, List, [], ◌∷◌, ◌++◌, Option, Some, None, if◌then◌else◌, nat_lt, flat_map}
 use Rattle.tcel_num.specs.declared.at.At.{At}
-use Rattle.tcel_num.specs.declared.op.Op.{Op}
 use Rattle.tcel_core.specs.Typing.{operand_type, result_type}
 use Rattle.tcel_tree.specs.declared.placed.Placed.{Placed}
 use Rattle.tcel_tree.specs.declared.stmt.Window.{Window}

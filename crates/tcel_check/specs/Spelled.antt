@@ -1,5 +1,5 @@
 -- What a text can spell: names are names, and numbers fit 64 bits.
-use Rattle.std.specs.Prelude.{ℕ, List, FitsSigned, IfSome}
+use Rattle.std.specs.Prelude.{FitsSigned, IfSome}
 use Rattle.std.specs.Int.{w64}
 use Rattle.std.specs.List.{AllByRecursion}
 use Rattle.tcel_num.specs.Name.{IsName}
@@ -8,7 +8,7 @@ use Rattle.tcel_tree.specs.declared.task.DeclKind.{DeclKind}
 use Rattle.tcel_tree.specs.declared.task.DeclKind.TheVariants.{Int}
 use Rattle.tcel_tree.specs.Language.{Task}
 use Rattle.tcel_check.specs.Rows.{task_sights}
-use Rattle.tcel_check.specs.Sights.{Sight, node, literal, value, name, window, loop, bound}
+use Rattle.tcel_check.specs.Sights.{Sight, literal, name}
 
 abbrev pub IsSpelled : Sight → Type 0
 IsSpelled (literal at n wanted) = FitsSigned w64 n

@@ -1,5 +1,5 @@
 -- What a walk through a body keeps: the least mark so far, and how many nodes and `do` blocks may still come.
-use Rattle.std.specs.Prelude.{◌≡◌, ℕ, ◌-◌, ◌==◌, List, [], ◌∷◌, ◌++◌, Option, fold}
+use Rattle.std.specs.Prelude.{◌≡◌, ℕ, ◌-◌, ◌==◌, List, [], ◌++◌, Option, fold}
 use Rattle.std.specs.List.{AllByRecursion}
 use Rattle.tcel_num.specs.declared.at.At.{At}
 use Rattle.tcel_tree.specs.declared.task.DeclKind.{DeclKind}

@@ -1,4 +1,3 @@
-use Rattle.std.proofs.Common.{◌≤◌, sym, arith}
 use Rattle.tcel_check.proofs.Heads.{words_more, words_past}
 use Rattle.tcel_check.proofs.head.words_behind.Goals as goal
 

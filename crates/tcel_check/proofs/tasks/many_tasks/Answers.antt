@@ -1,6 +1,5 @@
-use Rattle.std.proofs.Common.{refl, ◌∙◌, sym, ap, Option, None, option_map, map}
+use Rattle.std.proofs.Common.{refl, ◌∙◌, sym, ap, option_map, map}
 use Rattle.std.specs.Prelude.{option_copied}
-use Rattle.tcel_tree.specs.declared.task.Task.{Task}
 use Rattle.tcel_tree.specs.Plain.{plain_task}
 use Rattle.tcel_check.specs.declared.fail.LimitKind.TheVariants.{Tasks}
 use Rattle.tcel_check.specs.Rows.{at_task}

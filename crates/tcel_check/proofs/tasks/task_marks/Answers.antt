@@ -1,4 +1,3 @@
-use Rattle.std.proofs.Common.{◌≡◌}
 use Rattle.tcel_tree.specs.Plain.{plain_task}
 use Rattle.tcel_check.specs.Known.{kind_in}
 use Rattle.tcel_check.proofs.TaskMarks.{saw_task, task_adds}

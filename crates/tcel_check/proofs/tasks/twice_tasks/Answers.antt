@@ -1,4 +1,4 @@
-use Rattle.std.proofs.Common.{◌≡◌, ◌+◌, ◌∷◌, ◌++◌, [], List, ap, sym, ◌∙◌, take, map}
+use Rattle.std.proofs.Common.{◌≡◌, ◌+◌, ◌∷◌, ◌++◌, [], ap, sym, ◌∙◌, take, map}
 use Rattle.std.proofs.lemmas.List.{map_more}
 use Rattle.tcel_tree.specs.Language.{Task}
 use Rattle.tcel_tree.specs.Plain.{plain_task}

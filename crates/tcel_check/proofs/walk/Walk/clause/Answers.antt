@@ -1,5 +1,4 @@
 use Rattle.tcel_check.proofs.walk.Walk.clause.Goals as goal
-use Rattle.std.proofs.Common.{◌≡◌}
 
 pub returns-in-Some : goal.returns-in-Some
 returns-in-Some c = λ kind. rw c.in-Some.is (c.bound.ensures kind)

@@ -1,4 +1,3 @@
-use Rattle.std.proofs.Common.{◌≡◌}
 use Rattle.tcel_check.proofs.Walking.{saw_cons, saw_then}
 use Rattle.tcel_check.proofs.walk.Walk.head.Goals as goal
 
