@@ -1,13 +1,13 @@
 -- Sound tasks are in scope for the sets' theorem.
-use Rattle.std.proofs.Common.{◌≡◌, ℕ, zero, suc, ◌<◌, List, [], ◌∷◌, Option, Some, None, refl, ap, arith, slice_get}
+use Rattle.std.proofs.Common.{◌≡◌, ℕ, zero, suc, ◌+◌, ◌<◌, ◌≤◌, List, [], ◌∷◌, Option, Some, None, refl, ap, arith, slice_get}
 use Rattle.tcel_core.specs.declared.var.Var.{Var}
 use Rattle.tcel_core.specs.declared.var.VarKind.{VarKind}
 use Rattle.tcel_core.specs.Cells.{all_words, place, words_of}
 use Rattle.tcel_core.specs.Language.{Expr, number, variable, element, unary, binary, Block, done, next, Stmt, item, choice, timed, Act, assign, assign_at, receive, send, for_loop, while_loop, copy}
-use Rattle.tcel_core.specs.Limits.{IsCount, IsWithinBounds, StmtIsWithinBounds, ActIsWithinBounds}
+use Rattle.tcel_core.specs.Limits.{operators, IsCount, IsWithinBounds, StmtIsWithinBounds, ActIsWithinBounds}
 use Rattle.tcel_core.specs.Scope.{ActFits, AreTurns, Fits, HasWord, HaveOperands, IsInScope, IsSound, StmtFits}
 use Rattle.tcel_core.specs.Typing.{ActIsTyped, HasType, IsScalar, IsTyped, Names, StmtIsTyped, ValueType, scalar_type}
-use Rattle.tcel_check.specs.Soundness.{sound_tasks_are_in_scope}
+use Rattle.tcel_check.specs.Soundness.{FewWords, sound_tasks_are_in_scope, stack_words}
 
 one_word : (kind : VarKind) (type : ValueType) → scalar_type kind ≡ Some type → words_of kind ≡ 1
 one_word VarKind.Int type h = refl
@@ -69,3 +69,16 @@ pub tasks_in_scope : sound_tasks_are_in_scope
 tasks_in_scope task sound =
     let some = sound.period.some in
     record { period = omega arith; body = block_fits task.body _ sound.body.typed sound.body.bounded; loops = sound.body.untimed }
+
+few_words : (e : Expr) → stack_words e ≤ 1 + operators e
+few_words (number n) = omega arith
+few_words (variable v) = omega arith
+few_words (element v i) = few_words i
+few_words (unary op e) = let rest = few_words e in omega arith
+few_words (binary op a b) = let left = few_words a in let right = few_words b in omega arith
+
+pub words_are_few : FewWords
+words_are_few = record {
+  expr = λ e few. let most = few_words e in omega arith;
+  assignment = λ v i e few. let left = few_words i in let right = few_words e in let first = few.0 in let second = few.1 in omega arith;
+}

@@ -56,6 +56,10 @@ window_sights w = clause_sights w.after ++ (clause_sights w.before ++ clause_sig
 abbrev pub inside : ℕ → ℕ
 inside loops = if nat_lt loops 3 then loops + 1 else loops
 
+-- of an assignment behind its node: the value has the variable's type
+abbrev pub assigned_sights : At → List ℕ → Expr → (List ℕ → Option DeclKind) → List Sight
+assigned_sights at x e kind = name at x (Scalar None) ∷ expr_sights e (type_of (kind x))
+
 -- of statements inside this many loops, where names are declared so
 abbrev mutual
   pub block_sights : Block → (List ℕ → Option DeclKind) → ℕ → List Sight
@@ -63,7 +67,7 @@ abbrev mutual
   block_sights (next s rest) kind loops = stmt_sights s kind loops ++ block_sights rest kind loops
 
   pub stmt_sights : Stmt → (List ℕ → Option DeclKind) → ℕ → List Sight
-  stmt_sights (assign at x e) kind loops = node at ∷ name at x (Scalar None) ∷ expr_sights e (type_of (kind x))
+  stmt_sights (assign at x e) kind loops = node at ∷ assigned_sights at x e kind
   stmt_sights (assign_at at x i e) kind loops = node at ∷ name at x Element ∷ (expr_sights i int ++ expr_sights e int)
   stmt_sights (receive at x x_at port port_at) kind loops = node at ∷ name x_at x (Scalar int) ∷ name port_at port From ∷ []
   stmt_sights (send at e port port_at) kind loops = node at ∷ (expr_sights e int ++ (name port_at port To ∷ []))

@@ -1,7 +1,9 @@
--- The laws that the set of a program without faults is sound, and that sound tasks are in scope.
-use Rattle.std.specs.Prelude.{◌≡◌, List, []}
+-- The laws that the set of a program without faults is sound, that sound tasks are in scope, and that their expressions need few words.
+use Rattle.std.specs.Prelude.{◌≡◌, List, [], ℕ, ◌+◌, ◌≤◌, max}
 use Rattle.std.specs.List.{AllByRecursion}
 use Rattle.tcel_core.specs.Language as core
+use Rattle.tcel_core.specs.Language.{Expr, number, variable, element, unary, binary, assign_at}
+use Rattle.tcel_core.specs.Limits.{ActIsWithinBounds, operators}
 use Rattle.tcel_core.specs.Scope.{TaskFits}
 use Rattle.tcel_core.specs.Sound.{IsSoundSet, IsSoundTask}
 use Rattle.tcel_tree.specs.Language.{Task}
@@ -16,3 +18,16 @@ sets_are_sound = (tasks : List Task) → IsCheckable tasks → AllByRecursion Is
 -- and that the theorem on sets speaks of each sound task
 abbrev pub sound_tasks_are_in_scope : Type 0
 sound_tasks_are_in_scope = (task : core.Task) → IsSoundTask task → TaskFits task
+
+-- the words of stack that an expression needs: the left operand's value waits while the right one is evaluated
+abbrev pub stack_words : Expr → ℕ
+stack_words (number n) = 1
+stack_words (variable v) = 1
+stack_words (element v i) = stack_words i
+stack_words (unary op e) = stack_words e
+stack_words (binary op a b) = max (stack_words a) (1 + stack_words b)
+
+-- an expression of a sound task needs 65 words at the most, and an assignment to an array 66, since its index waits
+pub record FewWords : Type 0 where
+  pub expr : (e : Expr) → operators e ≤ 64 → stack_words e ≤ 65
+  pub assignment : (v : ℕ) (i e : Expr) → ActIsWithinBounds (assign_at v i e) → max (stack_words i) (1 + stack_words e) ≤ 66

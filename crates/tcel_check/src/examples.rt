@@ -3,7 +3,9 @@ ghost use Rattle.tcel_num.specs.declared.op.Op.{Op};
 ghost use Rattle.tcel_check.specs.declared.fail.CheckKind.TheVariants.{Twice, Unknown, WrongType, NotAPort, WindowInLoop, LoopDepth, SamePriority, BadBound};
 ghost use Rattle.tcel_check.specs.declared.fail.LimitKind.TheVariants.{Tasks, Variables, Words, Nodes, Windows};
 ghost use Rattle.tcel_check.specs.Checked.{set_of};
-ghost use Rattle.tcel_check.specs.Examples.{at, placed, decl, int_local, task, one, found, declared, x, n, b, num, to, to_at, take_in, put_out, test, loop_of, repeat, clauses, do_block, loops, same_ports, arrays, blocks, tasks_to, two_tasks, two_core_tasks};
+ghost use Rattle.tcel_check.specs.Examples.{at, placed, decl, int_local, task, one, found, declared, x, n, b, num, to, to_at};
+ghost use Rattle.tcel_check.specs.Examples.{take_in, put_out, test, loop_of, repeat, clauses, do_block};
+ghost use Rattle.tcel_check.specs.Examples.{loops, same_ports, arrays, blocks, tasks_to, two_tasks, two_core_tasks};
 ghost use Rattle.tcel_check.specs.Marks.{fault, limit, precedes};
 ghost use Rattle.tcel_check.specs.Rows.{many_names, many_nodes, marks, task_marks};
 ghost use Rattle.tcel_tree.specs.declared.task.DeclKind.{DeclKind};
@@ -14,7 +16,8 @@ pub fn name_examples()
     ensures sound { found (to (codes "n") (binary (at 35) Op.Add (n 34) (element (at 36) (codes "a") (n 37)))) ≡ [] }
     ensures unknown_value { found (to (codes "n") (x 35 (codes "z"))) ≡ fault Unknown (at 35) ∷ [] }
     ensures unknown_target { found (to (codes "z") (truth (at 35) true)) ≡ fault Unknown (at 30) ∷ [] }
-    ensures unknown_array { found (to_at (codes "z") (b 34) (truth (at 35) true)) ≡ fault Unknown (at 30) ∷ fault WrongType (at 34) ∷ fault WrongType (at 35) ∷ [] }
+    ensures unknown_array { found (to_at (codes "z") (b 34) (truth (at 35) true))
+        ≡ fault Unknown (at 30) ∷ fault WrongType (at 34) ∷ fault WrongType (at 35) ∷ [] }
     ensures unknown_port { found (take_in (codes "n") (codes "z")) ≡ fault Unknown (at 32) ∷ [] }
     ensures unknown_output { found (put_out (n 35) (codes "z")) ≡ fault Unknown (at 39) ∷ [] }
     ensures port_as_value { found (to (codes "n") (x 35 (codes "s"))) ≡ fault WrongType (at 35) ∷ [] }
@@ -57,7 +60,8 @@ pub fn bound_examples()
     ensures many_turns { found (loop_of (codes "n") 4097 done) ≡ fault BadBound (at 32) ∷ [] }
     ensures least_times { found (do_block (clauses (Some (placed 41 1)) (Some (placed 42 1)) (Some (placed 43 1))) done) ≡ [] }
     ensures most_time { found (do_block (clauses (Some (placed 41 1000000000)) None None) done) ≡ [] }
-    ensures times { found (do_block (clauses (Some (placed 41 0)) (Some (placed 42 1000000001)) (Some (placed 43 0))) done) ≡ fault BadBound (at 41) ∷ fault BadBound (at 42) ∷ fault BadBound (at 43) ∷ [] }
+    ensures times { found (do_block (clauses (Some (placed 41 0)) (Some (placed 42 1000000001)) (Some (placed 43 0))) done)
+        ≡ fault BadBound (at 41) ∷ fault BadBound (at 42) ∷ fault BadBound (at 43) ∷ [] }
     ensures priorities { task_marks (task (codes "t") 1000 [] 1 done) ≡ [] }
     ensures no_priority { task_marks (task (codes "t") 0 [] 1 done) ≡ fault BadBound (at 2) ∷ [] }
     ensures high_priority { task_marks (task (codes "t") 1001 [] 1 done) ≡ fault BadBound (at 2) ∷ [] }
@@ -71,7 +75,8 @@ pub fn bound_examples()
 
 /// What it says of declarations and tasks, and of limits.
 pub fn limit_examples()
-    ensures twice { declared (decl 11 (codes "s") DeclKind.Input ∷ decl 12 (codes "n") int_local ∷ decl 13 (codes "s") int_local ∷ []) ≡ fault Twice (at 13) ∷ [] }
+    ensures twice { declared (decl 11 (codes "s") DeclKind.Input ∷ decl 12 (codes "n") int_local ∷ decl 13 (codes "s") int_local ∷ [])
+        ≡ fault Twice (at 13) ∷ [] }
     ensures ports { declared (same_ports 3) ≡ fault Twice (at 101) ∷ fault Twice (at 102) ∷ [] }
     ensures names { many_names (task (codes "t") 1 (same_ports 256) 9 done) ≡ [] }
     ensures too_many_names { many_names (task (codes "t") 1 (same_ports 258) 9 done) ≡ limit Variables (at 356) ∷ [] }
@@ -80,15 +85,18 @@ pub fn limit_examples()
     ensures words { declared (arrays (4096 ∷ [])) ≡ [] }
     ensures many_words { declared (decl 69 (codes "n") int_local ∷ arrays (4096 ∷ [])) ≡ limit Words (at 70) ∷ [] }
     ensures no_words { declared (arrays (4096 ∷ []) ++ (decl 72 (codes "p") DeclKind.Input ∷ [])) ≡ [] }
-    ensures past_words { declared (arrays (4096 ∷ []) ++ (decl 72 (codes "n") int_local ∷ decl 73 (codes "m") int_local ∷ [])) ≡ limit Words (at 72) ∷ [] }
+    ensures past_words { declared (arrays (4096 ∷ []) ++ (decl 72 (codes "n") int_local ∷ decl 73 (codes "m") int_local ∷ []))
+        ≡ limit Words (at 72) ∷ [] }
     ensures windows { task_marks (task (codes "t") 1 [] 9 (blocks 31)) ≡ [] }
     ensures many_windows { task_marks (task (codes "t") 1 [] 9 (blocks 33)) ≡ limit Windows (at 1031) ∷ [] }
     ensures tasks { marks (tasks_to 16) ≡ [] }
     ensures many_tasks { marks (tasks_to 17) ≡ limit Tasks (at 116) ∷ [] }
     ensures same_names { marks (task (codes "t") 1 [] 9 done ∷ task (codes "t") 2 [] 9 done ∷ []) ≡ fault Twice (at 1) ∷ [] }
-    ensures same_priorities { marks (task (codes "t") 5 [] 9 done ∷ task (codes "u") 6 [] 9 done ∷ task (codes "v") 5 [] 9 done ∷ []) ≡ fault SamePriority (at 2) ∷ [] }
+    ensures same_priorities { marks (task (codes "t") 5 [] 9 done ∷ task (codes "u") 6 [] 9 done ∷ task (codes "v") 5 [] 9 done ∷ [])
+        ≡ fault SamePriority (at 2) ∷ [] }
     ensures two_tasks { marks (task (codes "t") 5 (same_ports 1) 9 done ∷ task (codes "u") 6 (same_ports 1) 9 done ∷ []) ≡ [] }
-    ensures other_task { marks (task (codes "t") 5 (same_ports 1) 9 done ∷ task (codes "u") 6 [] 9 (one (put_out (num 35 1) (codes "p"))) ∷ []) ≡ fault Unknown (at 39) ∷ [] }
+    ensures other_task { marks (task (codes "t") 5 (same_ports 1) 9 done ∷ task (codes "u") 6 [] 9 (one (put_out (num 35 1) (codes "p"))) ∷ [])
+        ≡ fault Unknown (at 39) ∷ [] }
 {}
 
 /// Which of two marks is answered: the earlier place, and at one place the earlier row.

@@ -1,7 +1,7 @@
 ghost use Rattle.std.specs.Prelude.{◌≡◌, ◌≤◌, ◌<◌, ℕ, List, ◌∷◌, Option, OnOk, IfOk, flat_map, map};
 ghost use Rattle.std.specs.List.{AllByRecursion};
 ghost use Rattle.tcel_check.specs.Known.{kind_in};
-ghost use Rattle.tcel_check.specs.Least.{Adds};
+ghost use Rattle.tcel_check.specs.Least.{Adds, AddsWords};
 ghost use Rattle.tcel_check.specs.Rows.{at_decl, many_names, past, passing, repeats, same_decl, twice_mark, word_mark, words_of};
 ghost use Rattle.tcel_check.specs.Marks.{fault, limit};
 ghost use Rattle.tcel_check.specs.Sights.{head_sights, length_sights};
@@ -60,7 +60,7 @@ pub fn words_of(kind: DeclKind) -> u32
 
 /// The name with which the words pass 4,096.
 pub fn many_words(decls: &[Decl], least: &mut Option<Mark>)
-    ensures { Adds least.old least.new (map word_mark (passing 0 decls.now)) }
+    ensures { AddsWords 0 decls.now least.old least.new }
 {
     let mut words = 0;
     for decl in decls {
@@ -72,7 +72,7 @@ pub fn many_words(decls: &[Decl], least: &mut Option<Mark>)
 fn words_behind(words: u32, decl: &Decl, least: &mut Option<Mark>) -> u32
     requires { words ≤ 8192 }
     ensures most { result ≤ 8192 }
-    ensures step { (end : Option Mark) (left : List Decl) → Adds least.new end (map word_mark (passing result left)) → Adds least.old end (map word_mark (passing words (decl.now ∷ left))) }
+    ensures step { (end : Option Mark) (left : List Decl) → AddsWords result left least.new end → AddsWords words (decl.now ∷ left) least.old end }
 {
     if words > MOST_WORDS {
         return words;

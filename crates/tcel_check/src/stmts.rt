@@ -1,7 +1,7 @@
 ghost use Rattle.std.specs.Prelude.{◌≡◌, ℕ, List, ◌∷◌, Option, None};
 ghost use Rattle.tcel_check.specs.Known.{kind_in};
 ghost use Rattle.tcel_check.specs.Sights as sights;
-ghost use Rattle.tcel_check.specs.Sights.{block_sights, clause_sights, expr_sights, inside, stmt_sights, window_sights};
+ghost use Rattle.tcel_check.specs.Sights.{assigned_sights, block_sights, clause_sights, expr_sights, inside, stmt_sights, window_sights};
 ghost use Rattle.tcel_check.specs.declared.purpose.Purpose.TheVariants.{Scalar};
 ghost use Rattle.tcel_check.specs.Types.{type_of};
 ghost use Rattle.tcel_check.specs.Walks.{Saw};
@@ -94,7 +94,7 @@ impl Walk {
 
     /// An assigned value has its variable's type; nothing is wanted of it where there is no such scalar.
     fn assign(&mut self, names: &Names, at: At, name: &Name, value: &Expr)
-        ensures { Saw (kind_in names.now) self.old self.new (sights.name at name.now (Scalar None) ∷ expr_sights (plain_expr value.now) (type_of (kind_in names.now name.now))) }
+        ensures { Saw (kind_in names.now) self.old self.new (assigned_sights at name.now (plain_expr value.now) (kind_in names.now)) }
     {
         self.name(names, at, name, Purpose::Scalar(None));
         self.expr(names, value, type_in(names, name));
