@@ -1,0 +1,10 @@
+pub mod AllNumbers
+pub mod Assembled
+pub mod Finding
+pub mod FindingLive
+pub mod FindingSplits
+pub mod Growing
+pub mod NumberLists
+pub mod NumbersFound
+pub mod RenamedAll
+pub mod SetsFound
