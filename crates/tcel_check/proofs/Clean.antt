@@ -72,8 +72,11 @@ module _ (kind : List ℕ → Option DeclKind) where
       let none : nat_le 3 loops ≡ false = when_none _ _ (left_none (when (nat_le 3 loops) (fault LoopDepth at)) [] h.0) in
       grind (arith, nat_tests)
 
+  pub clean_within : (n : Placed) (most : ℕ) → IsClean (bound n most) → is_within n.value most ≡ true
+  clean_within n most h = not_false (is_within n.value most) (when_none (not (is_within n.value most)) (fault BadBound n.at) h.0)
+
   pub clean_bound : (n : Placed) (most : ℕ) → IsClean (bound n most) → (1 ≤ whole n.value) × (whole n.value ≤ most)
-  clean_bound n most h = within n.value (not_false (is_within n.value most) (when_none (not (is_within n.value most)) (fault BadBound n.at) h.0))
+  clean_bound n most h = within n.value (clean_within n most h)
     where
       within : (z : ℤ) → is_within z most ≡ true → (1 ≤ whole z) × (whole z ≤ most)
       within (pos m) h = grind (arith, nat_tests)

@@ -7,6 +7,8 @@ pub mod SameNames
 pub mod Heads
 pub mod Counting
 pub mod TaskMarks
+pub mod Steps
+pub mod FallingSteps
 pub mod Lists
 pub mod Clean
 pub mod NumberedNames
@@ -14,3 +16,9 @@ pub mod SoundExprs
 pub mod SoundBlocks
 pub mod SoundNumbers
 pub mod SoundCounts
+pub mod SoundDecls
+pub mod SoundTasks
+pub mod SoundSets
+pub mod KeyLists
+pub mod RoomLemmas
+pub mod TaskNames

@@ -3,7 +3,11 @@ use Rattle.std.proofs.Common.{◌≡◌, ℕ, zero, suc, ◌+◌, ◌<◌, ◌�
 use Rattle.std.specs.Prelude.{flat_map}
 use Rattle.std.specs.List.{AllByRecursion, cons_option, list_any}
 use Rattle.std.proofs.lemmas.List.Folds.{list_any-append}
+use Rattle.std.specs.Prelude.{AllPairs}
+use Rattle.std.proofs.lemmas.List.Kept.{AllPairs-cons}
+use Rattle.std.proofs.lemmas.List.Elements.{All-from_recursion}
 use Rattle.tcel_check.specs.Rows.{when, repeats_behind}
+use Rattle.tcel_check.proofs.Walking.{all_append}
 
 pub left_none : {A : Type 0} (xs ys : List A) → xs ++ ys ≡ [] → xs ≡ []
 left_none [] ys h = refl
@@ -132,9 +136,10 @@ module _ {A : Type 0} (like : A → A → Bool) where
       let rest = unlike_behind (before ++ x ∷ []) xs (right_none (when (list_any (like x) before) x) (repeats_behind like (before ++ x ∷ []) xs) h) in
       let split : (y : A) → list_any (like y) (before ++ x ∷ []) ≡ false → (list_any (like y) before || (like y x || false)) ≡ false =
       λ y none. sym (list_any-append (like y) before (x ∷ [])) ∙ none
-      in
-      ((here, all_map _ (λ y. list_any (like y) before ≡ false) (λ y none. or_left _ _ (split y none)) xs rest.0),
-      (all_map _ (λ y. like y x ≡ false) (λ y none. or_left _ _ (or_right _ _ (split y none))) xs rest.0, rest.1))
+      in (
+        (here, all_map _ (λ y. list_any (like y) before ≡ false) (λ y none. or_left _ _ (split y none)) xs rest.0),
+        (all_map _ (λ y. like y x ≡ false) (λ y none. or_left _ _ (or_right _ _ (split y none))) xs rest.0, rest.1),
+      )
 
   pub unlike_of : (xs : List A) → repeats_behind like [] xs ≡ [] → Unlike like xs
   unlike_of xs h = (unlike_behind [] xs h).1
@@ -155,3 +160,46 @@ module _ {A : Type 0} (like : A → A → Bool) where
       let other : like a x ≡ false = all_in (λ y. like y x ≡ false) a xs h.0 p in
       let turned : like a x ≡ true = ap (like a) q ∙ same in cc
   only_one swap a b (x ∷ xs) h (inr p) (inr q) same = only_one swap a b xs h.1 p q same
+
+pub all_of : {A : Type 0} (P : A → Type 0) (xs : List A) → ((x : A) → In x xs → P x) → AllByRecursion P xs
+all_of P [] f = tt
+all_of P (x ∷ xs) f = (f x (inl refl), all_of P xs (λ y there. f y (inr there)))
+
+pub each_in : {A B : Type 0} (P : B → Type 0) (f : A → List B) (x : A) (xs : List A) → AllByRecursion P (flat_map f xs) → In x xs → AllByRecursion P (f x)
+each_in P f x [] h there = elim there [ ]
+each_in P f x (y ∷ ys) h (inl same) = subst (λ z. AllByRecursion P (f z)) same (all_left P (f y) (flat_map f ys) h)
+each_in P f x (y ∷ ys) h (inr later) = each_in P f x ys (all_right P (f y) (flat_map f ys) h) later
+
+pub passes : {A : Type 0} (p : A → Bool) (x : A) (xs : List A) → In x (filter p xs) → p x ≡ true
+passes p x [] h = elim h [ ]
+passes {A = A} p x (y ∷ ys) h = by_test (p y) refl h (passes p x ys)
+  where
+    by_test : (b : Bool) → p y ≡ b → In x (cond b (y ∷ filter p ys) (filter p ys)) → (In x (filter p ys) → p x ≡ true) → p x ≡ true
+    by_test true e (inl same) rest = ap p (sym same) ∙ e
+    by_test true e (inr later) rest = rest later
+    by_test false e later rest = rest later
+
+-- R holds of each element and each later one
+abbrev pub Pairwise : {A : Type 0} → (A → A → Type 0) → List A → Type 0
+Pairwise R [] = Unit {0}
+Pairwise R (x ∷ xs) = AllByRecursion (R x) xs × Pairwise R xs
+
+pub pairs_append : {A : Type 0} (R : A → A → Type 0) (xs ys : List A) → Pairwise R xs → Pairwise R ys →
+    ((x y : A) → In x xs → In y ys → R x y) → Pairwise R (xs ++ ys)
+pairs_append R [] ys p q cross = q
+pairs_append R (x ∷ xs) ys p q cross = (
+  all_append (R x) xs ys p.0 (all_of (R x) ys (λ y there. cross x y (inl refl) there)),
+  pairs_append R xs ys p.1 q (λ z y here there. cross z y (inr here) there),
+)
+
+pub pairs_map : {A B : Type 0} (R : A → A → Type 0) (S : B → B → Type 0) (f : A → B) (g : (x y : A) → R x y → S (f x) (f y)) (xs : List A) → Pairwise R xs → Pairwise S (map f xs)
+pairs_map R S f g [] h = tt
+pairs_map {A = A} R S f g (x ∷ xs) h = (heads xs h.0, pairs_map R S f g xs h.1)
+  where
+    heads : (ys : List A) → AllByRecursion (R x) ys → AllByRecursion (S (f x)) (map f ys)
+    heads [] p = tt
+    heads (y ∷ ys) p = (g x y p.0, heads ys p.1)
+
+pub pairs_all : {A : Type 0} (R : A → A → Type 0) (xs : List A) → Pairwise R xs → AllPairs R xs
+pairs_all R [] h = λ i j d lt within. absurd (omega arith)
+pairs_all R (x ∷ xs) h = AllPairs-cons R x xs (All-from_recursion (R x) xs h.0) (pairs_all R xs h.1)

@@ -18,6 +18,7 @@ use Rattle.tcel_check.specs.declared.purpose.Purpose.TheVariants.{Scalar, Elemen
 use Rattle.tcel_check.specs.declared.value_type.ValueType.{ValueType}
 use Rattle.tcel_check.specs.Answers.{IsFitExpr, block_exprs, stmt_exprs, branch_exprs}
 use Rattle.tcel_check.specs.Checked.{Numbers, core_block, core_branch, core_expr, core_stmt, core_window, behind_block, behind_if, behind_do, behind_stmt, in_loop, number_of, numbered, time_of, vars_of}
+use Rattle.tcel_check.specs.Rooms.{HasBounds, StmtHasBounds}
 use Rattle.tcel_check.specs.Rows.{has_type, same_decl, whole}
 use Rattle.tcel_check.specs.Sights.{Sight, block_sights, branch_sights, clause_sights, expr_sights, inside, stmt_sights, window_sights, node, name, loop, window, bound}
 use Rattle.tcel_check.specs.Types.{is_input, is_output, kind_of, named, scalar_type, type_of}
@@ -69,9 +70,12 @@ module _ (ds : List Decl) (unlike : Unlike same_decl ds) where
   assigned x e right h fit = by_type (scalar_type right.kind) refl right.typed
     where
       of_type : (type : types.ValueType) → scalar_type right.kind ≡ Some (named type) → ActIsTyped names (core.assign (number_of (numbered ds).vars x) (core_expr e (numbered ds)))
-      of_type type is =
-          (type, scalar_found ds unlike x right.kind right.known type is,
-          expr_typed ds unlike e type (subst (λ (o : Option ValueType). AllByRecursion (Clean ds) (expr_sights e o)) (ap type_of right.known ∙ is) h) fit.operands)
+      of_type type is = (
+        type,
+        scalar_found ds unlike x right.kind right.known type is,
+        expr_typed ds unlike e type (subst (λ (o : Option ValueType). AllByRecursion (Clean ds) (expr_sights e o)) (ap type_of right.known ∙ is) h) fit.operands,
+      )
+
       by_type : (o : Option ValueType) → scalar_type right.kind ≡ o → has_type o None ≡ true → ActIsTyped names (core.assign (number_of (numbered ds).vars x) (core_expr e (numbered ds)))
       by_type None is typed = cc
       by_type (Some ValueType.Int) is typed = of_type types.int is
@@ -83,10 +87,11 @@ module _ (ds : List Decl) (unlike : Unlike same_decl ds) where
 
   window_within : (w : Window) → AllByRecursion (Clean ds) (window_sights w) → IsBounded (core_window w)
   window_within w h =
-      let others = all_right (Clean ds) (clause_sights w.after) (clause_sights w.before ++ clause_sights w.within) h in
-      (clause_within w.after (all_left (Clean ds) (clause_sights w.after) (clause_sights w.before ++ clause_sights w.within) h),
-      clause_within w.before (all_left (Clean ds) (clause_sights w.before) (clause_sights w.within) others),
-      clause_within w.within (all_right (Clean ds) (clause_sights w.before) (clause_sights w.within) others))
+      let others = all_right (Clean ds) (clause_sights w.after) (clause_sights w.before ++ clause_sights w.within) h in (
+        clause_within w.after (all_left (Clean ds) (clause_sights w.after) (clause_sights w.before ++ clause_sights w.within) h),
+        clause_within w.before (all_left (Clean ds) (clause_sights w.before) (clause_sights w.within) others),
+        clause_within w.within (all_right (Clean ds) (clause_sights w.before) (clause_sights w.within) others),
+      )
 
   mutual
     pub block_sound : (b : Block) (loops : ℕ) (next_ones : Numbers) → loops ≤ 3 → AllByRecursion (Clean ds) (block_sights b kind loops) →
@@ -107,32 +112,48 @@ module _ (ds : List Decl) (unlike : Unlike same_decl ds) where
         AllByRecursion Fit (stmt_exprs s) → StmtIsSound names loops (core_stmt s (numbered ds) next_ones)
     stmt_sound (assign at x e) loops next_ones le h fit = record {
       typed = assigned x e (clean_name kind at x (Scalar None) h.1.0) h.1.1 fit.0;
-      bounded = expr_within e fit.0; loops_untimed = tt; untimed = λ some. tt; depth = omega arith;
+      bounded = expr_within e fit.0;
+      loops_untimed = tt;
+      untimed = λ some. tt;
+      depth = omega arith;
     }
     stmt_sound (assign_at at x i e) loops next_ones le h fit =
         let right = clean_name kind at x Element h.1.0 in
         let front = expr_sights i (Some ValueType.Int) in
         let back = expr_sights e (Some ValueType.Int) in
         record {
-          typed =
-              (array_found ds unlike x right.kind right.known right.typed, expr_typed ds unlike i types.int (all_left (Clean ds) front back h.1.1) (fit.0).operands,
-              expr_typed ds unlike e types.int (all_right (Clean ds) front back h.1.1) (fit.1.0).operands);
-          bounded = (expr_within i fit.0, expr_within e fit.1.0); loops_untimed = tt; untimed = λ some. tt; depth = omega arith;
+          typed = (
+            array_found ds unlike x right.kind right.known right.typed,
+            expr_typed ds unlike i types.int (all_left (Clean ds) front back h.1.1) (fit.0).operands,
+            expr_typed ds unlike e types.int (all_right (Clean ds) front back h.1.1) (fit.1.0).operands,
+          );
+          bounded = (expr_within i fit.0, expr_within e fit.1.0);
+          loops_untimed = tt;
+          untimed = λ some. tt;
+          depth = omega arith;
         }
     stmt_sound (receive at x x_at port port_at) loops next_ones le h fit =
         let right = clean_name kind port_at port From h.1.1.0 in
         record {
           typed = (int_scalar x (clean_name kind x_at x (Scalar (Some ValueType.Int)) h.1.0), port_found is_input ds port right.kind right.known right.port);
-          bounded = tt; loops_untimed = tt; untimed = λ some. tt; depth = omega arith;
+          bounded = tt;
+          loops_untimed = tt;
+          untimed = λ some. tt;
+          depth = omega arith;
         }
     stmt_sound (send at e port port_at) loops next_ones le h fit =
         let front = expr_sights e (Some ValueType.Int) in
         let back = all_right (Clean ds) front (name port_at port To ∷ []) h.1 in
         let right = clean_name kind port_at port To back.0 in
         record {
-          typed = (expr_typed ds unlike e types.int (all_left (Clean ds) front (name port_at port To ∷ []) h.1) (fit.0).operands,
-              port_found is_output ds port right.kind right.known right.port);
-          bounded = expr_within e fit.0; loops_untimed = tt; untimed = λ some. tt; depth = omega arith;
+          typed = (
+            expr_typed ds unlike e types.int (all_left (Clean ds) front (name port_at port To ∷ []) h.1) (fit.0).operands,
+            port_found is_output ds port right.kind right.known right.port,
+          );
+          bounded = expr_within e fit.0;
+          loops_untimed = tt;
+          untimed = λ some. tt;
+          depth = omega arith;
         }
     stmt_sound (choice at test held other) loops next_ones le h fit =
         let front = expr_sights test (Some ValueType.Bool) in
@@ -189,3 +210,38 @@ module _ (ds : List Decl) (unlike : Unlike same_decl ds) where
         AllByRecursion Fit (branch_exprs b) → BlockIsSound names loops (core_branch b (numbered ds) next_ones)
     branch_sound absent loops next_ones le h fit = record { typed = tt; bounded = tt; loops_untimed = tt; untimed = λ some. tt; depth = omega arith }
     branch_sound (present b) loops next_ones le h fit = block_sound b loops next_ones le h fit
+
+  -- bounds alone, whatever the expressions are
+  mutual
+    pub block_bounds : (b : Block) (loops : ℕ) (next_ones : Numbers) → AllByRecursion (Clean ds) (block_sights b kind loops) → HasBounds (core_block b (numbered ds) next_ones)
+    block_bounds done loops next_ones h = tt
+    block_bounds (next s rest) loops next_ones h = (
+      stmt_bounds s loops next_ones (all_left (Clean ds) (stmt_sights s kind loops) (block_sights rest kind loops) h),
+      block_bounds rest loops (behind_stmt s next_ones) (all_right (Clean ds) (stmt_sights s kind loops) (block_sights rest kind loops) h),
+    )
+
+    stmt_bounds : (s : Stmt) (loops : ℕ) (next_ones : Numbers) → AllByRecursion (Clean ds) (stmt_sights s kind loops) → StmtHasBounds (core_stmt s (numbered ds) next_ones)
+    stmt_bounds (assign at x e) loops next_ones h = tt
+    stmt_bounds (assign_at at x i e) loops next_ones h = tt
+    stmt_bounds (receive at x x_at port port_at) loops next_ones h = tt
+    stmt_bounds (send at e port port_at) loops next_ones h = tt
+    stmt_bounds (choice at test held other) loops next_ones h =
+        let both = all_right (Clean ds) (expr_sights test (Some ValueType.Bool)) (block_sights held kind loops ++ branch_sights other kind loops) h.1 in (
+          block_bounds held loops (behind_if next_ones) (all_left (Clean ds) (block_sights held kind loops) (branch_sights other kind loops) both),
+          branch_bounds other loops (behind_block held (behind_if next_ones)) (all_right (Clean ds) (block_sights held kind loops) (branch_sights other kind loops) both),
+        )
+    stmt_bounds (for_loop at x x_at turns body) loops next_ones h =
+        let count = clean_bound kind turns 4096 h.1.1.1.0 in
+        (record { some = count.0; most = count.1 }, block_bounds body (inside loops) in_loop h.1.1.1.1)
+    stmt_bounds (while_loop at test turns body) loops next_ones h =
+        let rest = all_right (Clean ds) (expr_sights test (Some ValueType.Bool)) (bound turns 4096 ∷ block_sights body kind (inside loops)) h.1.1 in
+        let count = clean_bound kind turns 4096 rest.0 in
+        (record { some = count.0; most = count.1 }, block_bounds body (inside loops) in_loop rest.1)
+    stmt_bounds (timed at w body) loops next_ones h = (
+      window_within w (all_left (Clean ds) (window_sights w) (block_sights body kind loops) h.1.1),
+      block_bounds body loops (behind_do next_ones) (all_right (Clean ds) (window_sights w) (block_sights body kind loops) h.1.1),
+    )
+
+    branch_bounds : (b : Branch) (loops : ℕ) (next_ones : Numbers) → AllByRecursion (Clean ds) (branch_sights b kind loops) → HasBounds (core_branch b (numbered ds) next_ones)
+    branch_bounds absent loops next_ones h = tt
+    branch_bounds (present b) loops next_ones h = block_bounds b loops next_ones h

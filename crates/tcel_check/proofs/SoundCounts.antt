@@ -33,6 +33,12 @@ window_count w =
 node_more : (s : Sight) (ss : List Sight) (n : ℕ) → node_count (s ∷ []) ≡ n → node_count (s ∷ ss) ≡ n + node_count ss
 node_more s ss n is = let all = count_append (s ∷ []) ss in omega arith
 
+abbrev pub windows_in : List Sight → ℕ
+windows_in ss = length (flat_map window_places ss)
+
+pub windows_append : (xs ys : List Sight) → windows_in (xs ++ ys) ≡ windows_in xs + windows_in ys
+windows_append xs ys = ap length (flat_map-append window_places xs ys) ∙ length-append (flat_map window_places xs) (flat_map window_places ys)
+
 module _ (kind : List ℕ → Option DeclKind) (names : Numbered) where
   mutual
     pub nodes_kept : (b : Block) (loops : ℕ) (n : Numbers) → limits.nodes (core_block b names n) ≡ node_count (block_sights b kind loops)
@@ -71,12 +77,6 @@ module _ (kind : List ℕ → Option DeclKind) (names : Numbered) where
     branch_nodes : (b : Branch) (loops : ℕ) (n : Numbers) → limits.nodes (core_branch b names n) ≡ node_count (branch_sights b kind loops)
     branch_nodes absent loops n = refl
     branch_nodes (present b) loops n = nodes_kept b loops n
-
-  abbrev pub windows_in : List Sight → ℕ
-  windows_in ss = length (flat_map window_places ss)
-
-  windows_append : (xs ys : List Sight) → windows_in (xs ++ ys) ≡ windows_in xs + windows_in ys
-  windows_append xs ys = ap length (flat_map-append window_places xs ys) ∙ length-append (flat_map window_places xs) (flat_map window_places ys)
 
   mutual
     pub blocks_kept : (b : Block) (loops : ℕ) (n : Numbers) → length (do_numbers (core_block b names n)) ≤ windows_in (block_sights b kind loops)

@@ -24,7 +24,7 @@ use Rattle.tcel_check.proofs.Clean.{IsClean, IsRight, clean_value, clean_literal
 use Rattle.tcel_check.proofs.Lists.{Unlike, all_left, all_right}
 use Rattle.tcel_check.proofs.NumberedNames.{scalar_found, array_found}
 
-truth_fits : (b : Bool) → (truth_number b ≡ pos 0) ⊎ (truth_number b ≡ pos 1)
+pub truth_fits : (b : Bool) → (truth_number b ≡ pos 0) ⊎ (truth_number b ≡ pos 1)
 truth_fits true = inr refl
 truth_fits false = inl refl
 
@@ -59,19 +59,25 @@ module _ (ds : List Decl) (unlike : Unlike same_decl ds) where
       let right = clean_name (kind_of ds) at x (Scalar (Some (named type))) h.1.0 in
       scalar_found ds unlike x right.kind right.known type (scalar_wanted (scalar_type right.kind) type right.typed)
   expr_typed (element at x i) type h operands =
-      let right = clean_name (kind_of ds) at x Element h.1.0 in
-      (same_type core.int type (clean_value (kind_of ds) at ValueType.Int (Some (named type)) h.1.1.0),
-      array_found ds unlike x right.kind right.known right.typed, expr_typed i core.int h.1.1.1 operands)
-  expr_typed (unary at op e) type h operands =
-      (operands.0, same_type (result_type op) type (clean_value (kind_of ds) at (named (result_type op)) (Some (named type)) h.1.0),
-      expr_typed e (operand_type op) h.1.1 operands.1)
+      let right = clean_name (kind_of ds) at x Element h.1.0 in (
+        same_type core.int type (clean_value (kind_of ds) at ValueType.Int (Some (named type)) h.1.1.0),
+        array_found ds unlike x right.kind right.known right.typed,
+        expr_typed i core.int h.1.1.1 operands,
+      )
+  expr_typed (unary at op e) type h operands = (
+    operands.0,
+    same_type (result_type op) type (clean_value (kind_of ds) at (named (result_type op)) (Some (named type)) h.1.0),
+    expr_typed e (operand_type op) h.1.1 operands.1,
+  )
   expr_typed (binary at op a b) type h operands =
       let front = expr_sights a (Some (named (operand_type op))) in
       let back = node at ∷ value at (named (result_type op)) (Some (named type)) ∷ expr_sights b (Some (named (operand_type op))) in
-      let rest = all_right (Clean ds) front back h in
-      (operands.0, same_type (result_type op) type (clean_value (kind_of ds) at (named (result_type op)) (Some (named type)) rest.1.0),
-      expr_typed a (operand_type op) (all_left (Clean ds) front back h) operands.1,
-      expr_typed b (operand_type op) rest.1.1 operands.2)
+      let rest = all_right (Clean ds) front back h in (
+        operands.0,
+        same_type (result_type op) type (clean_value (kind_of ds) at (named (result_type op)) (Some (named type)) rest.1.0),
+        expr_typed a (operand_type op) (all_left (Clean ds) front back h) operands.1,
+        expr_typed b (operand_type op) rest.1.1 operands.2,
+      )
 
 -- each node of an expression is a node of the core expression
 abbrev pub node_count : List Sight → ℕ

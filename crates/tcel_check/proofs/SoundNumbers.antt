@@ -94,20 +94,23 @@ module _ (names : Numbered) where
   mutual
     unnumbered : (b : Block) → IsUntimed (core_block b names in_loop) → IsUnnumbered (core_block b names in_loop)
     unnumbered done h = tt
-    unnumbered (next s rest) h =
-        (stmt_unnumbered s h.0,
-        subst (λ (n : Numbers). IsUnnumbered (core_block rest names n)) (sym (stmt_stays s))
-        (unnumbered rest (subst (λ (n : Numbers). IsUntimed (core_block rest names n)) (stmt_stays s) h.1)))
+    unnumbered (next s rest) h = (
+      stmt_unnumbered s h.0,
+      subst (λ (n : Numbers). IsUnnumbered (core_block rest names n)) (sym (stmt_stays s))
+          (unnumbered rest (subst (λ (n : Numbers). IsUntimed (core_block rest names n)) (stmt_stays s) h.1)),
+    )
 
     stmt_unnumbered : (s : Stmt) → StmtIsUntimed (core_stmt s names in_loop) → StmtIsUnnumbered (core_stmt s names in_loop)
     stmt_unnumbered (assign at x e) h = (refl, tt)
     stmt_unnumbered (assign_at at x i e) h = (refl, tt)
     stmt_unnumbered (receive at x x_at port port_at) h = (refl, tt)
     stmt_unnumbered (send at e port port_at) h = (refl, tt)
-    stmt_unnumbered (choice at test held other) h =
-        (refl, unnumbered held h.0,
-        subst (λ (n : Numbers). IsUnnumbered (core_branch other names n)) (sym (stays held))
-        (branch_unnumbered other (subst (λ (n : Numbers). IsUntimed (core_branch other names n)) (stays held) h.1)))
+    stmt_unnumbered (choice at test held other) h = (
+      refl,
+      unnumbered held h.0,
+      subst (λ (n : Numbers). IsUnnumbered (core_branch other names n)) (sym (stays held))
+          (branch_unnumbered other (subst (λ (n : Numbers). IsUntimed (core_branch other names n)) (stays held) h.1)),
+    )
     stmt_unnumbered (for_loop at x x_at turns body) h = (refl, unnumbered body h)
     stmt_unnumbered (while_loop at test turns body) h = (refl, unnumbered body h)
     stmt_unnumbered (timed at w body) h = elim h [ ]

@@ -1,4 +1,4 @@
--- What a check asks, and what it answers.
+-- What a check answers, and of which programs the set is sound.
 use Rattle.std.specs.Prelude.{◌≡◌, ℕ, ◌+◌, ◌≤◌, true, false, List, [], ◌∷◌, ◌++◌, length, Result, Ok, Err, Some, All, flat_map}
 use Rattle.tcel_num.specs.Arithmetic.{is_unary}
 use Rattle.tcel_core.specs.declared.set.Set.{Set}
@@ -51,7 +51,7 @@ abbrev mutual
   branch_exprs absent = []
   branch_exprs (present body) = block_exprs body
 
--- a program that can be checked: it has a task, and its expressions are as a text can have them
+-- it has a task, and its expressions are as a text can have them
 pub record IsCheckable (tasks : List Task) : Type 0 where
   pub some : 1 ≤ length tasks
   pub exprs : All IsFitExpr (flat_map (λ (t : Task). block_exprs t.body) tasks)

@@ -8,4 +8,7 @@ pub mod Spelled
 pub mod Walks
 pub mod Checked
 pub mod Answers
+pub mod Soundness
+pub mod Keys
+pub mod Rooms
 pub mod Examples

@@ -1,4 +1,4 @@
-use tcel_num::{At, NoMemory};
+use tcel_num::At;
 
 /// Why a program isn't compiled. Each answer comes exactly where docs/language.md says, at its place.
 #[derive(Clone, Copy, Debug, PartialEq, Eq)]
@@ -29,10 +29,4 @@ pub enum LimitKind {
     Words,
     Nodes,
     Windows,
-}
-
-impl From<NoMemory> for CheckFail {
-    fn from(_: NoMemory) -> CheckFail {
-        CheckFail::NoMemory
-    }
 }

@@ -41,7 +41,7 @@ pub fn many_names(decls: &[Decl], least: &mut Option<Mark>)
 }
 
 /// The words of a declaration: an array has none where its length is out of range.
-fn words_of(kind: DeclKind) -> u32
+pub fn words_of(kind: DeclKind) -> u32
     ensures words { result ≡ words_of kind }
     ensures most { result ≤ 4096 }
 {
