@@ -5,8 +5,9 @@ use Rattle.tcel_io.specs.InTurn.{AreTaken}
 use Rattle.tcel_io.specs.Shelf.{SeenShelf}
 use Rattle.tcel_tool.specs.Answer.{Agrees, Decides, Ended, Goes, Loads, with_read}
 use Rattle.tcel_tool.specs.CommandLine.{word_at}
+use Rattle.tcel_tool.specs.CheckCommand.{status_at}
 use Rattle.tcel_tool.specs.Commands.{IsText, Refuses}
-use Rattle.tcel_tool.specs.FormatCommand.{IsDeep, IsLexical}
+use Rattle.tcel_tool.specs.ProgramText.{IsDeep, IsLexical}
 use Rattle.tcel_tool.specs.RunCommand.{RefusesImage, RefusesLines}
 use Rattle.tcel_tool.specs.Stage.{Call, Stage, load, bound, test}
 use Rattle.tcel_tool.specs.Test.{Test}
@@ -15,6 +16,8 @@ use Rattle.tcel_tool.specs.declared.command.Command.{Command}
 use Rattle.tcel_tool.specs.declared.status.LimitFault.TheVariants as limits
 use Rattle.tcel_tool.specs.declared.status.Status.{Status}
 use Rattle.tcel_tool.specs.declared.status.Status.TheVariants as statuses
+use Rattle.tcel_check.specs.declared.mark.Row.{Row}
+use Rattle.tcel_check.specs.declared.mark.Row.TheVariants as rows
 use Rattle.tcel_grammar.specs.declared.deep.Deep.{Deep}
 use Rattle.tcel_grammar.specs.declared.deep.Deep.TheVariants as deep
 use Rattle.tcel_image.specs.declared.image.Image.{Image}
@@ -61,6 +64,10 @@ deep_refusal : (what : Deep) (at : At) (status : Status) → IsDeep what at stat
 deep_refusal deep.Nesting at status h = becomes status _ h refl
 deep_refusal deep.Operators at status h = becomes status _ h refl
 
+mark_refusal : (at : At) (row : Row) (status : Status) → status ≡ status_at at row → IsTrue (is_refusal status)
+mark_refusal at (rows.Fault kind) status h = becomes status _ h refl
+mark_refusal at (rows.Limit kind) status h = becomes status _ h refl
+
 pub refusal : (what : Test) (call : Call) (status : Status) → Refuses what call status → IsTrue (is_refusal status)
 refusal tests.plain_program call status h = becomes status _ h.0 refl
 refusal tests.target call status h = becomes status _ h.1 refl
@@ -70,6 +77,7 @@ refusal tests.script call status h = script_refusal h.0 (call.read 2) status h.2
 refusal tests.program call status (inl h) = lexical_refusal h.0 status h.1
 refusal tests.program call status (inr (tokens, lexed, inl h)) = becomes status _ h.1 refl
 refusal tests.program call status (inr (tokens, lexed, inr h)) = deep_refusal h.0 h.1 status h.2
+refusal tests.faultless call status (tasks, program, (mark, is, first)) = mark_refusal mark.at mark.row status is
 
 no_refusal : (what : Test) (call : Call) (status given : Status) → Refuses what call status → status ≡ given → is_refusal given ≡ false → ⊥
 no_refusal what call status given h e none = let is : is_refusal status ≡ true = refusal what call status h in let same : is_refusal status ≡ is_refusal given = ap is_refusal e in cc

@@ -1,10 +1,16 @@
 -- Worked command lines, computed.
-use Rattle.std.proofs.Common.{◌≡◌, refl}
+use Rattle.std.proofs.Common.{◌≡◌, zero, suc, false, [], ◌∷◌, Contains, ap, arith, refl, sym}
 use Rattle.std.specs.Prelude.{codes}
 use Rattle.std.specs.List.{concat}
 use Rattle.std.specs.Fmt.{digits}
-use Rattle.tcel_tool.specs.CommandExamples.{format_line, too_deep, unexpected}
+use Rattle.tcel_check.specs.Examples.{at}
+use Rattle.tcel_check.specs.Marks.{limit, precedes}
+use Rattle.tcel_check.specs.declared.fail.LimitKind.TheVariants.{Tasks}
+use Rattle.tcel_check.specs.declared.mark.Mark.{Mark}
+use Rattle.tcel_tool.specs.CheckCommand.{RefusesTasks}
+use Rattle.tcel_tool.specs.CommandExamples.{check_line, format_line, many_tasks, same_priority, seventeen, sixteen, too_deep, unexpected}
 use Rattle.tcel_tool.specs.FaultLine.{fault_pieces}
+use Rattle.tcel_tool.specs.declared.status.Status.{Status}
 
 pub unexpected_line : concat (fault_pieces format_line unexpected) ≡ codes "program 1:38: unexpected token\n"
 unfolding digits
@@ -13,3 +19,24 @@ unexpected_line = refl
 pub deep_line : concat (fault_pieces format_line too_deep) ≡ codes "limit: operators above 64 at 12:304\n"
 unfolding digits
 deep_line = refl
+
+pub fault_line : concat (fault_pieces check_line same_priority) ≡ codes "program 2:17: same priority\n"
+unfolding digits
+fault_line = refl
+
+pub limit_line : concat (fault_pieces check_line many_tasks) ≡ codes "limit: tasks above 16 at 1:116\n"
+unfolding digits
+limit_line = refl
+
+abbrev first : Mark
+first = limit Tasks (at 116)
+
+alone : (other : Mark) → Contains (first ∷ []) other → precedes other first ≡ false
+alone other (zero, within, is) = ap (λ (m : Mark). precedes m first) (sym is)
+alone other (suc i, within, is) = absurd (omega (arith, within))
+
+pub seventeen-refused : RefusesTasks seventeen many_tasks
+seventeen-refused = (first, refl, ((0, omega arith, refl), alone))
+
+pub sixteen-free : (status : Status) → RefusesTasks sixteen status → ⊥
+sixteen-free status (mark, is, (there, earliest)) = omega (arith, there.1)

@@ -4,36 +4,41 @@ use Rattle.std.proofs.lemmas.Bool.Decides.{nat_tests}
 use Rattle.std.proofs.lemmas.List.{take_rest}
 use Rattle.std.proofs.lemmas.List.Folds.{list_all_at}
 use Rattle.std.specs.Char.{is_ascii_digit}
-use Rattle.std.specs.Prelude.{IsTrue}
+use Rattle.std.specs.Prelude.{IsTrue, if◌then◌else◌, nat_eq}
+use Rattle.std.specs.Cmp.Lexicographic.{pointwise}
 use Rattle.std.specs.List.{AllByRecursion, list_all}
 use Rattle.tcel_tool.specs.CommandLine.{AreWords, fit, is_number, word_at}
 use Rattle.tcel_tool.specs.Commands.{HasForm, HaveNoForm, name_of}
 use Rattle.tcel_tool.specs.declared.command.Slot.{Slot}
 use Rattle.tcel_tool.specs.declared.command.Command.{Command}
-use Rattle.tcel_tool.specs.declared.command.Command.TheVariants.{Compile, Run, Format}
+use Rattle.tcel_tool.specs.declared.command.Command.TheVariants.{Compile, Run, Format, Check}
 
 -- no two commands have one name
+abbrev command_named : List ℕ → Command
+command_named word =
+    if pointwise nat_eq word (name_of Compile) then Compile
+    else (if pointwise nat_eq word (name_of Run) then Run else (if pointwise nat_eq word (name_of Format) then Format else Check))
+
+named : (command : Command) → command_named (name_of command) ≡ command
+named Compile = refl
+named Run = refl
+named Format = refl
+named Check = refl
+
 one_name : (a b : Command) → name_of a ≡ name_of b → a ≡ b
-one_name Compile Compile e = refl
-one_name Compile Run e = absurd cc
-one_name Compile Format e = absurd cc
-one_name Run Compile e = absurd cc
-one_name Run Run e = refl
-one_name Run Format e = absurd cc
-one_name Format Compile e = absurd cc
-one_name Format Run e = absurd cc
-one_name Format Format e = refl
+one_name a b e = sym (named a) ∙ ap command_named e ∙ named b
 
 -- words have the form of one command at most
 pub one_form : (words : List (List ℕ)) (a b : Command) → HasForm a words → HasForm b words → a ≡ b
 one_form [] a b h k = absurd h
 one_form (first ∷ words) a b h k = one_name a b (sym h.0 ∙ k.0)
 
--- words that have the form of none of the three have the form of none
-pub of_none : (words : List (List ℕ)) → AllByRecursion (λ (command : Command). ¬ HasForm command words) (Compile ∷ Run ∷ Format ∷ []) → HaveNoForm words
+-- words that have the form of none of these have the form of none
+pub of_none : (words : List (List ℕ)) → AllByRecursion (λ (command : Command). ¬ HasForm command words) (Compile ∷ Run ∷ Format ∷ Check ∷ []) → HaveNoForm words
 of_none words none Compile = none.0
 of_none words none Run = none.1.0
 of_none words none Format = none.1.1.0
+of_none words none Check = none.1.1.1.0
 
 both : (a b : Bool) → IsTrue (a && b) → IsTrue a × IsTrue b
 both true b h = (refl, h)

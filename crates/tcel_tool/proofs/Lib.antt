@@ -10,12 +10,14 @@ pub mod PlainValid
 pub mod StraightPlans
 pub mod OneTask
 pub mod FlawOrder
+pub mod FirstMarks
 pub mod TestLaws
 pub mod CallLaws
 pub mod Exits
 pub mod CompileFacts
 pub mod CompileStages
 pub mod RunStages
+pub mod CheckStages
 pub mod Forms
 pub mod RunLines
 pub mod Written

@@ -1,11 +1,13 @@
 -- What passes a test is not refused by it, and a test refuses with one status.
-use Rattle.std.proofs.Common.{◌≡◌, ℕ, ◌<◌, List, [], ◌∷◌, Ok, Err, refl, sym, ap, ◌∙◌, subst, inl, inr, arith}
+use Rattle.std.proofs.Common.{◌≡◌, ℕ, ◌<◌, List, [], ◌∷◌, Contains, Some, Ok, Err, refl, sym, ap, ◌∙◌, subst, inl, inr, arith}
 use Rattle.tcel_demand.proofs.Hyperperiods.{only_hyperperiod, own_demand}
 use Rattle.tcel_num.specs.Hyperperiod.{IsHyperperiod, demand}
 use Rattle.tcel_num.specs.Plan.{Plan}
 use Rattle.tcel_num.specs.declared.at.At.{At}
 use Rattle.tcel_grammar.proofs.OneAnswer.{not_accepted, not_shallow, one_depth, one_syntax, syntax_or_depth}
+use Rattle.tcel_grammar.proofs.OneTree.{one_tree as one_parse}
 use Rattle.tcel_grammar.specs.Faults.{IsAccepted}
+use Rattle.tcel_grammar.specs.Programs.{IsProgram}
 use Rattle.tcel_grammar.specs.declared.deep.Deep.{Deep}
 use Rattle.tcel_grammar.specs.declared.deep.Deep.TheVariants as deep
 use Rattle.tcel_token.proofs.OneReading.{no_both, one_fault, one_list}
@@ -14,6 +16,9 @@ use Rattle.tcel_token.specs.declared.fail.LexFail.{LexFail}
 use Rattle.tcel_token.specs.declared.fail.LexFail.TheVariants as lex
 use Rattle.tcel_token.specs.declared.token.Tokens.{Tokens}
 use Rattle.tcel_tree.specs.Language as trees
+use Rattle.tcel_check.specs.Marks.{IsFirst}
+use Rattle.tcel_check.specs.Rows.{marks}
+use Rattle.tcel_check.specs.declared.mark.Mark.{Mark}
 use Rattle.tcel_target.proofs.Told.{says_one}
 use Rattle.tcel_target.specs.Target.{IsTarget, Says}
 use Rattle.tcel_target.specs.declared.costs.Costs.{Costs}
@@ -28,10 +33,11 @@ use Rattle.tcel_image.specs.declared.image.Image.{Image}
 use Rattle.tcel_script.specs.Script.{script_of}
 use Rattle.tcel_script.specs.declared.fail.ScriptFail.{ScriptFail}
 use Rattle.tcel_verify.specs.Ports.{port_rows}
+use Rattle.tcel_tool.specs.CheckCommand.{IsFaultless, RefusesFaults, status_at}
 use Rattle.tcel_tool.specs.Commands.{Passes, Refuses}
 use Rattle.tcel_tool.specs.CompileCommand.{Compiles, Demands, HasFault, IsTextOf, Overloads}
-use Rattle.tcel_tool.specs.FormatCommand.{IsDeep, IsGrammatical, IsLexical, IsProgramText, RefusesText}
 use Rattle.tcel_tool.specs.PlainTree.{IsPlain, task_of}
+use Rattle.tcel_tool.specs.ProgramText.{IsDeep, IsGrammatical, IsLexical, IsProgramText, RefusesText}
 use Rattle.tcel_tool.specs.RunCommand.{IsImageIn, RefusesImage, RefusesLines, Spells}
 use Rattle.tcel_tool.specs.Stage.{Call}
 use Rattle.tcel_tool.specs.StraightPlan.{frame_ticks}
@@ -41,6 +47,7 @@ use Rattle.tcel_tool.specs.declared.plain_tree.PlainTree.{PlainTree}
 use Rattle.tcel_tool.specs.declared.status.ProgramKind.TheVariants.{Unexpected}
 use Rattle.tcel_tool.specs.declared.status.Status.{Status}
 use Rattle.tcel_tool.specs.declared.status.Status.TheVariants as statuses
+use Rattle.tcel_tool.proofs.FirstMarks.{one_first}
 use Rattle.tcel_tool.proofs.FlawOrder.{one_flaw}
 use Rattle.tcel_tool.proofs.OneTask.{only_plan}
 use Rattle.tcel_tool.proofs.StraightPlans.{plan_is}
@@ -206,6 +213,26 @@ text_or_fault text tasks status is (inl h) = no_both text is.tokens h.0 is.lexed
 text_or_fault text tasks status is (inr h) =
     accepted_or_not h.0 tasks status (subst (λ (t : Tokens). IsAccepted (terminals t.list) tasks) (one_list text is.tokens h.0 is.lexed h.1) is.parsed) h.2
 
+-- ---- checked programs
+
+one_program : (text : List ℕ) (a b : List trees.Task) → IsProgramText text a → IsProgramText text b → a ≡ b
+one_program text a b is other =
+    let tokens = one_list text is.tokens other.tokens is.lexed other.lexed in
+    one_parse (terminals other.tokens.list) a b (subst (λ (t : Tokens). IsProgram (terminals t.list) a) tokens is.parsed.program) other.parsed.program
+
+faultless_or_fault : (text : List ℕ) (tasks : List trees.Task) (status : Status) → IsFaultless text tasks → RefusesFaults text status → ⊥
+faultless_or_fault text tasks status is (other, program, (mark, e, first)) =
+    let same = one_program text other tasks program is.program in
+    let there = subst (λ (ts : List trees.Task). Contains (marks ts) mark) same first.0 in
+    let none : Contains [] mark = subst (λ (ms : List Mark). Contains ms mark) is.free there in
+    omega (arith, none.1)
+
+one_program_fault : (text : List ℕ) (a b : Status) → RefusesFaults text a → RefusesFaults text b → a ≡ b
+one_program_fault text a b (tasks, program, (mark, e, first)) (others, program', (mark', e', first')) =
+    let same = one_program text tasks others program program' in
+    let one = one_first (marks others) mark mark' (subst (λ (ts : List trees.Task). IsFirst (marks ts) (Some mark)) same first) first' in
+    e ∙ ap (λ (m : Mark). status_at m.at m.row) one ∙ sym e'
+
 -- ---- the tests
 
 pub passes_or_refuses : (what : Test) (call : Call) (status : Status) → Passes what call → Refuses what call status → ⊥
@@ -220,6 +247,7 @@ passes_or_refuses tests.script call status p h =
     let none = why.read in
     cc
 passes_or_refuses tests.program call status p h = text_or_fault (call.read 1) p.0 status p.1 h
+passes_or_refuses tests.faultless call status p h = faultless_or_fault (call.read 1) p.0 status p.1 h
 
 pub one_refusal : (what : Test) (call : Call) (a b : Status) → Refuses what call a → Refuses what call b → a ≡ b
 one_refusal tests.plain_program call a b h k = h.0 ∙ sym k.0
@@ -235,3 +263,4 @@ one_refusal tests.script call a b h k =
     let fail : one.fail ≡ other.fail = cc in
     one.is ∙ ap statuses.Script fail ∙ sym other.is
 one_refusal tests.program call a b h k = one_text_fault (call.read 1) a b h k
+one_refusal tests.faultless call a b h k = one_program_fault (call.read 1) a b h k

@@ -1,8 +1,12 @@
 -- Worked command lines.
 use Rattle.std.specs.Prelude.{ℕ, List, [], ◌∷◌, Option, None, codes}
+use Rattle.tcel_check.specs.Examples.{at, tasks_to}
+use Rattle.tcel_check.specs.declared.fail.CheckKind.TheVariants.{SamePriority}
+use Rattle.tcel_check.specs.declared.fail.LimitKind.TheVariants.{Tasks}
+use Rattle.tcel_tree.specs.Language.{Task}
 use Rattle.tcel_tool.specs.declared.status.CountKind.TheVariants.{Ticks}
 use Rattle.tcel_tool.specs.declared.status.LimitFault.TheVariants as limits
-use Rattle.tcel_tool.specs.declared.status.ProgramKind.TheVariants.{Unexpected}
+use Rattle.tcel_tool.specs.declared.status.ProgramKind.TheVariants.{Check, Unexpected}
 use Rattle.tcel_tool.specs.declared.status.Status.{Status}
 use Rattle.tcel_tool.specs.declared.status.Status.TheVariants.{Limit, Program}
 
@@ -10,12 +14,15 @@ use Rattle.tcel_tool.specs.declared.status.Status.TheVariants.{Limit, Program}
 abbrev pub run_line : List ℕ → List (List ℕ)
 run_line ticks = codes "run" ∷ codes "a" ∷ codes "b" ∷ ticks ∷ []
 
--- `compile a b`, `format a`
+-- `compile a b`, `format a`, `check a`
 abbrev pub compile_line : List (List ℕ)
 compile_line = codes "compile" ∷ codes "a" ∷ codes "b" ∷ []
 
 abbrev pub format_line : List (List ℕ)
 format_line = codes "format" ∷ codes "a" ∷ []
+
+abbrev pub check_line : List (List ℕ)
+check_line = codes "check" ∷ codes "a" ∷ []
 
 -- no bytes are told
 abbrev pub nothing_told : List ℕ → Option (List ℕ)
@@ -32,3 +39,17 @@ unexpected = Program Unexpected (record { line = 1; column = 38 })
 -- the 65th operator of an expression
 abbrev pub too_deep : Status
 too_deep = Limit (limits.Operators (record { line = 12; column = 304 }))
+
+-- a priority that an earlier task has
+abbrev pub same_priority : Status
+same_priority = Program (Check SamePriority) (record { line = 2; column = 17 })
+
+-- tasks of which the 17th has its name in column 116
+abbrev pub sixteen : List Task
+sixteen = tasks_to 16
+
+abbrev pub seventeen : List Task
+seventeen = tasks_to 17
+
+abbrev pub many_tasks : Status
+many_tasks = Limit (limits.Placed Tasks (at 116))

@@ -12,6 +12,7 @@ use Rattle.tcel_tool.specs.CanonicalText.{text_of}
 use Rattle.tcel_tool.specs.Headline.{KeepsItsPromise}
 use Rattle.tcel_code.specs.Layout.{written}
 use Rattle.tcel_tool.specs.PlainTree.{IsPlain, IsWritable, set_of}
+use Rattle.tcel_tool.specs.ProgramText.{program_limit}
 use Rattle.tcel_tool.specs.RunCommand.{run_limit}
 use Rattle.tcel_tool.specs.Stage.{Call, Stage, load, test}
 use Rattle.tcel_tool.specs.Test as tests
@@ -30,7 +31,7 @@ abbrev pub slots : List Slot
 slots = File ∷ File ∷ []
 
 abbrev pub stages : List Stage
-stages = load 1 1048576 ∷ test tests.plain_program ∷ load 2 65536 ∷ test tests.target ∷ test tests.demand ∷ []
+stages = load 1 program_limit ∷ test tests.plain_program ∷ load 2 65536 ∷ test tests.target ∷ test tests.demand ∷ []
 
 -- ---- the program
 

@@ -2,6 +2,10 @@
 use Rattle.std.specs.Prelude.{ℕ, List, [], ◌∷◌, codes}
 use Rattle.std.specs.Fmt.{decimal}
 use Rattle.tcel_num.specs.declared.at.At.{At}
+use Rattle.tcel_check.specs.declared.fail.CheckKind.{CheckKind}
+use Rattle.tcel_check.specs.declared.fail.CheckKind.TheVariants as checks
+use Rattle.tcel_check.specs.declared.fail.LimitKind.{LimitKind}
+use Rattle.tcel_check.specs.declared.fail.LimitKind.TheVariants as placed
 use Rattle.tcel_image.specs.declared.fault.ImageFail.{ImageFail}
 use Rattle.tcel_image.specs.declared.fault.ImageFail.TheVariants as fails
 use Rattle.tcel_image.specs.declared.flaw.Flaw.{Flaw}
@@ -21,11 +25,31 @@ use Rattle.tcel_tool.specs.declared.status.ProgramKind.{ProgramKind}
 use Rattle.tcel_tool.specs.declared.status.ProgramKind.TheVariants as kinds
 use Rattle.tcel_tool.specs.CommandLine.{word_at}
 
+-- what stands too often in a program, in front of its place
+abbrev pub limit_text : LimitKind → List ℕ
+limit_text placed.Tasks = codes "limit: tasks above 16 at "
+limit_text placed.Variables = codes "limit: variables above 256 at "
+limit_text placed.Words = codes "limit: words above 4096 at "
+limit_text placed.Nodes = codes "limit: nodes above 4000 at "
+limit_text placed.Windows = codes "limit: windows above 31 at "
+
 abbrev pub limit_pieces : List (List ℕ) → LimitFault → List (List ℕ)
 limit_pieces words (limits.Bytes word limit) = codes "limit: bytes of " ∷ word_at words word ∷ codes " above " ∷ decimal limit ∷ codes "\n" ∷ []
 limit_pieces words (limits.Count Ticks value) = codes "limit: ticks " ∷ decimal value ∷ codes " above 10000000\n" ∷ []
 limit_pieces words (limits.Nesting at) = codes "limit: nesting above 32 at " ∷ decimal at.line ∷ codes ":" ∷ decimal at.column ∷ codes "\n" ∷ []
 limit_pieces words (limits.Operators at) = codes "limit: operators above 64 at " ∷ decimal at.line ∷ codes ":" ∷ decimal at.column ∷ codes "\n" ∷ []
+limit_pieces words (limits.Placed kind at) = limit_text kind ∷ decimal at.line ∷ codes ":" ∷ decimal at.column ∷ codes "\n" ∷ []
+
+-- the fault of a program that follows the grammar
+abbrev pub check_text : CheckKind → List ℕ
+check_text checks.Twice = codes "declared twice"
+check_text checks.Unknown = codes "unknown name"
+check_text checks.WrongType = codes "wrong type"
+check_text checks.NotAPort = codes "not a port of this kind"
+check_text checks.WindowInLoop = codes "window in a loop"
+check_text checks.LoopDepth = codes "loops too deep"
+check_text checks.SamePriority = codes "same priority"
+check_text checks.BadBound = codes "bound out of range"
 
 -- what goes wrong in a program
 abbrev pub program_text : ProgramKind → List ℕ
@@ -33,6 +57,7 @@ program_text kinds.BadByte = codes "bad byte"
 program_text kinds.BadNumber = codes "bad number"
 program_text kinds.NameTooLong = codes "name too long"
 program_text kinds.Unexpected = codes "unexpected token"
+program_text (kinds.Check kind) = check_text kind
 
 -- and where
 abbrev pub program_pieces : ProgramKind → At → List (List ℕ)

@@ -1,5 +1,6 @@
 pub mod Answer
 pub mod CanonicalText
+pub mod CheckCommand
 pub mod CommandExamples
 pub mod CommandLine
 pub mod Commands
@@ -11,6 +12,7 @@ pub mod FormatCommand
 pub mod Headline
 pub mod Lines
 pub mod PlainTree
+pub mod ProgramText
 pub mod Reading
 pub mod RunCommand
 pub mod Stage

@@ -7,3 +7,4 @@ pub data Test : Type 0 where
   image : Test
   script : Test
   program : Test
+  faultless : Test

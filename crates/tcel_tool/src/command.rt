@@ -10,6 +10,7 @@ pub enum Command {
     Compile,
     Run,
     Format,
+    Check,
 }
 
 /// What a word behind a command's name is: the name of a file, or 1 to 18 decimal digits.
@@ -19,7 +20,12 @@ pub enum Slot {
     Number,
 }
 
-const COMMANDS: [Command; 3] = [Command::Compile, Command::Run, Command::Format];
+const COMMANDS: [Command; 4] = [
+    Command::Compile,
+    Command::Run,
+    Command::Format,
+    Command::Check,
+];
 
 const MOST_DIGITS: usize = 18;
 
@@ -31,6 +37,7 @@ impl Command {
             Command::Compile => "compile",
             Command::Run => "run",
             Command::Format => "format",
+            Command::Check => "check",
         }
     }
 
@@ -40,7 +47,7 @@ impl Command {
         match self {
             Command::Compile => &[Slot::File, Slot::File],
             Command::Run => &[Slot::File, Slot::File, Slot::Number],
-            Command::Format => &[Slot::File],
+            Command::Format | Command::Check => &[Slot::File],
         }
     }
 }

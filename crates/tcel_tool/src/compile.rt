@@ -11,6 +11,7 @@ use crate::generate::image_of;
 use crate::plain_check::is_plain;
 use crate::plain_tree::PlainTree;
 use crate::plan::frame_ticks;
+use crate::program::PROGRAM_LIMIT;
 use crate::read::{ReadFail, read_tree};
 use crate::stages::load;
 use crate::status::Status;
@@ -19,9 +20,6 @@ use tcel_image::encode;
 use tcel_io::{Shelf, Sink};
 use tcel_num::NoMemory;
 use tcel_target::{Costs, TargetFail, read_target};
-
-/// The most bytes of a program.
-const PROGRAM_LIMIT: usize = 1_048_576;
 
 /// The most bytes of a target.
 const TARGET_LIMIT: usize = 65_536;

@@ -1,12 +1,13 @@
 ghost use Rattle.std.specs.Prelude.{◌≡◌, [], ◌∷◌, codes, map, string_bytes};
 ghost use Rattle.std.specs.Fmt.{decimal};
 ghost use Rattle.tcel_io.specs.InTurn.{ArePut};
-ghost use Rattle.tcel_tool.specs.FaultLine.{fault_pieces, flaw_pieces, flaw_text, image_pieces, limit_pieces};
+ghost use Rattle.tcel_tool.specs.FaultLine.{check_text, fault_pieces, flaw_pieces, flaw_text, image_pieces, limit_pieces, limit_text};
 ghost use Rattle.tcel_tool.specs.FaultLine.{program_pieces, program_text, script_pieces, target_pieces};
 
 use crate::stages::word_at;
 use crate::status::{CountKind, LimitFault, ProgramKind, Status};
 use itoa::Buffer;
+use tcel_check::{CheckKind, LimitKind};
 use tcel_image::{Flaw, FlawKind, ImageFail};
 use tcel_io::Sink;
 use tcel_num::At;
@@ -69,6 +70,19 @@ fn put_limit<K: Sink>(words: &[String], fault: LimitFault, err: &mut K)
         } => put_number(b"limit: ticks ", value, b" above 10000000\n", err),
         LimitFault::Nesting { at } => put_place(b"limit: nesting above 32 at ", at, err),
         LimitFault::Operators { at } => put_place(b"limit: operators above 64 at ", at, err),
+        LimitFault::Placed { kind, at } => put_place(limit_text(kind), at, err),
+    }
+}
+
+fn limit_text(kind: LimitKind) -> &'static [u8]
+    ensures { result.now ≡ limit_text kind }
+{
+    match kind {
+        LimitKind::Tasks => b"limit: tasks above 16 at ",
+        LimitKind::Variables => b"limit: variables above 256 at ",
+        LimitKind::Words => b"limit: words above 4096 at ",
+        LimitKind::Nodes => b"limit: nodes above 4000 at ",
+        LimitKind::Windows => b"limit: windows above 31 at ",
     }
 }
 
@@ -113,6 +127,22 @@ fn program_text(kind: ProgramKind) -> &'static [u8]
         ProgramKind::BadNumber => b"bad number",
         ProgramKind::NameTooLong => b"name too long",
         ProgramKind::Unexpected => b"unexpected token",
+        ProgramKind::Check(kind) => check_text(kind),
+    }
+}
+
+fn check_text(kind: CheckKind) -> &'static [u8]
+    ensures { result.now ≡ check_text kind }
+{
+    match kind {
+        CheckKind::Twice => b"declared twice",
+        CheckKind::Unknown => b"unknown name",
+        CheckKind::WrongType => b"wrong type",
+        CheckKind::NotAPort => b"not a port of this kind",
+        CheckKind::WindowInLoop => b"window in a loop",
+        CheckKind::LoopDepth => b"loops too deep",
+        CheckKind::SamePriority => b"same priority",
+        CheckKind::BadBound => b"bound out of range",
     }
 }
 

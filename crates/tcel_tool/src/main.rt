@@ -11,6 +11,9 @@ use tcel_num::NoMemory;
 use tool::tcel;
 
 mod canonical;
+mod check;
+#[cfg(test)]
+mod check_tests;
 mod command;
 mod compile;
 mod cursor;
@@ -25,6 +28,9 @@ mod names;
 mod plain_check;
 mod plain_tree;
 mod plan;
+mod program;
+#[cfg(test)]
+mod program_tests;
 mod read;
 mod run;
 mod stages;

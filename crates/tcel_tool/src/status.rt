@@ -2,6 +2,7 @@ ghost use Rattle.std.specs.Prelude.{◌≡◌};
 ghost use Rattle.tcel_tool.specs.ExitStatus.{exit_status};
 ghost use Rattle.tcel_tool.specs.declared.status.Status.TheVariants.{NoMemory as memory, WriteFault as write_fault};
 
+use tcel_check::{CheckKind, LimitKind};
 use tcel_image::{Flaw, ImageFail};
 use tcel_io::SinkFault;
 use tcel_num::{At, NoMemory};
@@ -47,6 +48,8 @@ pub enum ProgramKind {
     NameTooLong,
     /// The first token such that no program begins with the tokens up to it, or the text's end.
     Unexpected,
+    /// A fault of a program that follows the grammar.
+    Check(CheckKind),
 }
 
 /// A limit that is passed.
@@ -60,6 +63,8 @@ pub enum LimitFault {
     Nesting { at: At },
     /// The 65th operator of an outermost expression is here.
     Operators { at: At },
+    /// Here is the first one too many of what a program has.
+    Placed { kind: LimitKind, at: At },
 }
 
 /// What a number on the command line counts.

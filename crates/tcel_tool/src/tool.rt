@@ -8,6 +8,7 @@ ghost use Rattle.tcel_tool.specs.FaultLine.{fault_pieces};
 ghost use Rattle.tcel_tool.specs.declared.command.Command.{Command};
 ghost use Rattle.tcel_tool.specs.declared.status.Status.{Status};
 
+use crate::check::check;
 use crate::command::{Command, command_of};
 use crate::compile::compile;
 use crate::fault_line::put_fault_line;
@@ -84,5 +85,6 @@ fn body<H: Shelf, K: Sink>(
         Command::Compile => compile(alloc, words, shelf, out),
         Command::Run => run(alloc, words, shelf, out),
         Command::Format => format(alloc, words, shelf, out),
+        Command::Check => check(alloc, words, shelf, out),
     }
 }

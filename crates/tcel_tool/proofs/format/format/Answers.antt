@@ -2,7 +2,7 @@ use Rattle.std.proofs.Common.{◌≡◌, ◌∙◌, ℕ, List, [], ◌∷◌, ap
 use Rattle.tcel_show.specs.Text.{canonical_text}
 use Rattle.tcel_tree.specs.Plain.{plain_program}
 use Rattle.tcel_tool.specs.Answer.{OrMemory}
-use Rattle.tcel_tool.specs.FormatCommand.{IsProgramText, RefusesText}
+use Rattle.tcel_tool.specs.ProgramText.{IsProgramText, RefusesText}
 use Rattle.tcel_tool.proofs.Exits.{at_write_fault, cut_off, stops, taken}
 use Rattle.tcel_tool.proofs.format.format.Goals as goal
 

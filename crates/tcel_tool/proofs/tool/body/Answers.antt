@@ -8,3 +8,6 @@ returns-in-Run-clause-goes g c = rw c.in-Run.is c.run.ensures.goes
 
 pub returns-in-Format-clause-goes : goal.returns-in-Format-clause-goes
 returns-in-Format-clause-goes g c = rw c.in-Format.is c.format.ensures.goes
+
+pub returns-in-Check-clause-goes : goal.returns-in-Check-clause-goes
+returns-in-Check-clause-goes g c = rw c.in-Check.is c.check.ensures.goes
