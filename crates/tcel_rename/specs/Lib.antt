@@ -1,4 +1,5 @@
 pub mod Answer
+pub mod Fitting
 pub mod Halves
 pub mod Lives
 pub mod Numbers

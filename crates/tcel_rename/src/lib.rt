@@ -5,11 +5,11 @@ mod halves;
 mod kinds;
 mod live;
 mod numbers;
-mod parts_call;
 mod renaming;
 mod sets;
 mod splits;
 #[cfg(test)]
 mod tests;
+mod two_parts;
 
-pub use parts_call::{PartsFail, parts};
+pub use two_parts::{PartsFail, parts};

@@ -10,6 +10,7 @@ ghost use Rattle.tcel_core.specs.Sound.{IsSoundTask};
 ghost use Rattle.tcel_core.specs.declared.var.Var.{Var};
 ghost use Rattle.tcel_parts.specs.SliceLaw.{MeanTheBody, slicing_of};
 ghost use Rattle.tcel_rename.specs.Answer.{Refuses};
+ghost use Rattle.tcel_rename.specs.Fitting.{PartsFit};
 ghost use Rattle.tcel_rename.specs.Halves.{IsPlan, stmts_of};
 ghost use Rattle.tcel_rename.specs.Sets.{by_list};
 ghost use Rattle.tcel_slice.specs.Keeping.{marked};
@@ -41,6 +42,7 @@ pub fn parts(alloc: Global, task: &CoreTask, kept: &ItemSet) -> Result<Parts, Pa
     requires items { length kept.now.list ≡ length (item_numbers (plain_body task.now.body)) }
     ensures parts { IfOk result (λ p. plain_parts p ≡ parts_of (slicing_of (plain_task task.now) (marked kept.now.list))) }
     ensures words { IfOk result (λ p. p.words ≤ 65536) }
+    ensures fits { IfOk result (λ p. PartsFit (plain_task task.now) (plain_parts p)) }
     ensures law { IfOk result (λ p. MeanTheBody (plain_task task.now) (plain_parts p)) }
     ensures refused { IfErr result (Refuses (parts_of (slicing_of (plain_task task.now) (marked kept.now.list))).words) }
 {

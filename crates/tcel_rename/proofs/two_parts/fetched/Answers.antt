@@ -4,7 +4,7 @@ use Rattle.tcel_rename.specs.Renaming.{number_in}
 use Rattle.tcel_rename.specs.Sets.{by_list}
 use Rattle.tcel_rename.proofs.Assembled.{fetch_more, fetches_all}
 use Rattle.tcel_rename.proofs.Growing.{any_default}
-use Rattle.tcel_rename.proofs.parts_call.fetched.Goals as goal
+use Rattle.tcel_rename.proofs.two_parts.fetched.Goals as goal
 
 pub loop-v-preserved : goal.loop-v-preserved
 loop-v-preserved c = λ vars whole list plan.

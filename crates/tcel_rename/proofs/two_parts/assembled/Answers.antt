@@ -3,7 +3,7 @@ use Rattle.tcel_core.specs.Paths.{points}
 use Rattle.tcel_core.specs.Plain.{plain_body}
 use Rattle.tcel_rename.specs.Sets.{by_list}
 use Rattle.tcel_rename.proofs.Assembled.{all_parts, within_all}
-use Rattle.tcel_rename.proofs.parts_call.assembled.Goals as goal
+use Rattle.tcel_rename.proofs.two_parts.assembled.Goals as goal
 
 pub halve_body-requires : goal.halve_body-requires
 halve_body-requires c = let count = c.requires.plan.numbers.count in let few = c.requires.few in omega arith

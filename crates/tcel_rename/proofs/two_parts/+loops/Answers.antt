@@ -4,7 +4,7 @@ use Rattle.tcel_core.specs.Contents.{loops}
 use Rattle.tcel_core.specs.Plain.{block_of, plain_stmt}
 use Rattle.tcel_core.specs.declared.body.CoreStmt.{CoreStmt}
 use Rattle.std.proofs.Common.{List}
-use Rattle.tcel_rename.proofs.parts_call.+loops.Goals as goal
+use Rattle.tcel_rename.proofs.two_parts.+loops.Goals as goal
 
 pub loops_in_body-returns : goal.loops_in_body-returns
 loops_in_body-returns t c =

@@ -6,7 +6,7 @@ use Rattle.tcel_core.specs.Numbering.{numbers_from}
 use Rattle.tcel_core.specs.Parts.{copies, copy_of, number_of}
 use Rattle.tcel_rename.specs.Halves.{Adds, IsPlan}
 use Rattle.tcel_rename.specs.Sets.{by_list}
-use Rattle.tcel_rename.proofs.parts_call.fetched.Given as goal
+use Rattle.tcel_rename.proofs.two_parts.fetched.Given as goal
 
 abbrev pub invariant-loop-v : goal.invariant-loop-v
 invariant-loop-v l =

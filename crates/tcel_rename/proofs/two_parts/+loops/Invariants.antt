@@ -1,7 +1,7 @@
 use Rattle.std.proofs.Common.{◌≡◌, ◌+◌, ◌-◌, ◌^◌, ◌≤◌, min, map, drop}
 use Rattle.tcel_core.specs.Contents.{loops}
 use Rattle.tcel_core.specs.Plain.{block_of, plain_body, plain_stmt}
-use Rattle.tcel_rename.proofs.parts_call.+loops.Given as goal
+use Rattle.tcel_rename.proofs.two_parts.+loops.Given as goal
 
 abbrev pub invariant-loops_in_body-loop-stmt : goal.invariant-loops_in_body-loop-stmt
 invariant-loops_in_body-loop-stmt l =
