@@ -8,4 +8,5 @@ pub mod Growing
 pub mod NumberLists
 pub mod NumbersFound
 pub mod RenamedAll
+pub mod Rows
 pub mod SetsFound
