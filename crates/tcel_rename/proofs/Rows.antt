@@ -1,5 +1,5 @@
 -- The tasks of the tests are tasks of checked programs.
-use Rattle.std.proofs.Common.{rules, ◌≡◌, ℕ, pos, List, [], ◌∷◌, Some, refl, arith}
+use Rattle.std.proofs.Common.{rules, List, [], ◌∷◌, refl, arith}
 use Rattle.std.specs.Prelude.{codes}
 use Rattle.tcel_core.specs.declared.var.Keep.{Keep}
 use Rattle.tcel_core.specs.declared.var.Var.{Var}

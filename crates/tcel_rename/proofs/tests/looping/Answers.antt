@@ -1,4 +1,3 @@
-use Rattle.std.proofs.Common.{IfOk}
 use Rattle.tcel_rename.proofs.Rows.{looping_sound}
 use Rattle.tcel_rename.proofs.tests.looping.Goals as goal
 

@@ -1,4 +1,3 @@
-use Rattle.std.proofs.Common.{IfOk}
 use Rattle.tcel_rename.proofs.Rows.{stepping_sound}
 use Rattle.tcel_rename.proofs.tests.stepping.Goals as goal
 
