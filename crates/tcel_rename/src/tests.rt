@@ -56,8 +56,15 @@ fn port(alloc: Global, bytes: &[u8]) -> Result<Items<Name>, NoMemory>
 // A task of a body, with an input s and an output o.
 fn task_of(alloc: Global, vars: Items<Var>, body: Body) -> Result<CoreTask, NoMemory>
     ensures { IfOk result (λ t. plain_task t ≡ record {
-        name = codes "t"; priority = 1; period = 30; deadline = 30; vars = vars;
-        inputs = codes "s" ∷ []; outputs = codes "o" ∷ []; body = plain_body body }) }
+      name = codes "t";
+      priority = 1;
+      period = 30;
+      deadline = 30;
+      vars = vars;
+      inputs = codes "s" ∷ [];
+      outputs = codes "o" ∷ [];
+      body = plain_body body;
+    }) }
 {
     Ok(CoreTask {
         name: name(b"t")?,
