@@ -1,4 +1,3 @@
-mod Forms
 pub mod Walking
 pub mod SeeExprs
 pub mod SeeStmts

@@ -17,7 +17,7 @@ use Rattle.tcel_tree.specs.Language.{Block, done, next, Stmt, assign, assign_at,
 use Rattle.tcel_tree.specs.Plain.{branch_of, plain_block, plain_expr, plain_stmt}
 use Rattle.tcel_check.specs.Checked.{Numbered, Numbers, outside, in_loop, core_block, core_branch, core_expr, core_stmt, if_number, behind_block, behind_branch, behind_if, behind_do, behind_item, behind_stmt}
 use Rattle.tcel_check.specs.Rooms.{BlockFits, StmtFits, used}
-use Rattle.tcel_check.proofs.Forms.{choice_form}
+use Rattle.tcel_tree.proofs.Forms.{choice_form}
 
 used_item : (n : Numbers) → used (behind_item n) ≤ used n + 1
 used_item (outside item test window) = omega arith

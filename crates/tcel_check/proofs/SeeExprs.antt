@@ -13,7 +13,7 @@ use Rattle.tcel_check.specs.declared.walk.Walk.{Walk}
 use Rattle.tcel_check.specs.Sights.{expr_sights, node, literal, value, name}
 use Rattle.tcel_check.specs.Types.{named}
 use Rattle.tcel_check.specs.Walks.{Saw}
-use Rattle.tcel_check.proofs.Forms.{number_form, truth_form, variable_form, element_form, unary_form, binary_form}
+use Rattle.tcel_tree.proofs.Forms.{number_form, truth_form, variable_form, element_form, unary_form, binary_form}
 use Rattle.tcel_check.proofs.Walking.{saw_cons, saw_then, saw_same}
 
 -- an expression, and what is wanted there; an operand is read out of its box

@@ -16,7 +16,7 @@ use Rattle.tcel_check.specs.declared.walk.Walk.{Walk}
 use Rattle.tcel_check.specs.Sights.{Sight, block_sights, stmt_sights, expr_sights, window_sights, inside, node, name, loop, window, bound}
 use Rattle.tcel_check.specs.Types.{type_of}
 use Rattle.tcel_check.specs.Walks.{Saw}
-use Rattle.tcel_check.proofs.Forms.{assign_form, assign_at_form, receive_form, send_form, choice_form, for_form, while_form, timed_form}
+use Rattle.tcel_tree.proofs.Forms.{assign_form, assign_at_form, receive_form, send_form, choice_form, for_form, while_form, timed_form}
 use Rattle.tcel_check.proofs.Walking.{saw_cons, saw_then, saw_same}
 
 module _ (kind : List ℕ → Option DeclKind) (loops : ℕ) where

@@ -1,6 +1,6 @@
 -- What stands in a body.
-use Rattle.std.specs.Prelude.{ℕ, ◌+◌, Bool, true, false, if◌then◌else◌}
-use Rattle.tcel_core.specs.Language.{Block, done, next, Stmt, item, choice, timed, Act, receive, send, for_loop, while_loop}
+use Rattle.std.specs.Prelude.{ℕ, ◌+◌, ◌==◌, Bool, true, false, List, [], ◌∷◌, ◌++◌, Option, None, if◌then◌else◌}
+use Rattle.tcel_core.specs.Language.{Window, Block, done, next, Stmt, item, choice, timed, Act, receive, send, for_loop, while_loop}
 
 -- whether a block has a statement
 abbrev pub has_statement : Block → Bool
@@ -25,6 +25,10 @@ abbrev mutual
   act_has_event (while_loop test turns body) = has_event body
   act_has_event _ = false
 
+-- the bound of the hold with which a `do` block begins: it has `start after`, and a receive or a send stands in it
+abbrev pub hold_of : Window → Block → Option ℕ
+hold_of window body = if has_event body then window.after else None
+
 -- how many loops stand in statements
 abbrev mutual
   pub loops : Block → ℕ
@@ -40,3 +44,24 @@ abbrev mutual
   act_loops (for_loop v turns body) = 1 + loops body
   act_loops (while_loop test turns body) = 1 + loops body
   act_loops _ = 0
+
+-- an item outside loops, by its number, with how many loops it holds
+pub record Looped : Type 0 where
+  pub id : ℕ
+  pub loops : ℕ
+
+-- the items of a body in text order
+abbrev mutual
+  pub item_loops : Block → List Looped
+  item_loops done = []
+  item_loops (next s rest) = stmt_item_loops s ++ item_loops rest
+
+  pub stmt_item_loops : Stmt → List Looped
+  stmt_item_loops (item id act) = record { id = id; loops = act_loops act } ∷ []
+  stmt_item_loops (choice id test held other) = item_loops held ++ item_loops other
+  stmt_item_loops (timed id window body) = item_loops body
+
+-- how many loops stand in front of the first item with a number
+abbrev pub loops_before : ℕ → List Looped → ℕ
+loops_before id [] = 0
+loops_before id (i ∷ items) = if i.id == id then 0 else i.loops + loops_before id items

@@ -1,5 +1,5 @@
 -- The two parts of a sliced task: the first has all its events, and the rest follows it.
-use Rattle.std.specs.Prelude.{ℕ, zero, suc, ◌+◌, pos, Bool, false, not, ◌==◌, ◌&&◌, ◌||◌, List, [], ◌∷◌, ◌++◌, length, map, filter, flat_map, None, if◌then◌else◌}
+use Rattle.std.specs.Prelude.{◌≡◌, ℕ, zero, suc, ◌+◌, ◌≤◌, pos, Bool, false, not, ◌==◌, ◌&&◌, ◌||◌, List, [], ◌∷◌, ◌++◌, length, map, filter, flat_map, None, if◌then◌else◌}
 use Rattle.std.specs.List.{list_any, position_or_len}
 use Rattle.tcel_core.specs.declared.parts.Parts.{Parts}
 use Rattle.tcel_core.specs.declared.var.Keep.{Keep}
@@ -7,8 +7,9 @@ use Rattle.tcel_core.specs.declared.var.Var.{Var}
 use Rattle.tcel_core.specs.declared.var.VarKind.{VarKind}
 use Rattle.tcel_core.specs.Cells.{all_words}
 use Rattle.tcel_core.specs.Contents.{loops}
+use Rattle.tcel_core.specs.Kept.{IsKeptSet}
 use Rattle.tcel_core.specs.Kinds.{Slicing, holds_kept, is_kind_3, is_live, is_fetched}
-use Rattle.tcel_core.specs.Language.{Expr, number, variable, element, unary, binary, Block, done, next, joined, Stmt, item, choice, timed, Act, assign, assign_at, receive, send, for_loop, while_loop, copy}
+use Rattle.tcel_core.specs.Language.{Expr, number, variable, element, unary, binary, Block, done, next, joined, Stmt, item, choice, timed, Act, assign, assign_at, receive, send, for_loop, while_loop, copy, Task}
 use Rattle.tcel_core.specs.Numbering.{numbers_from}
 use Rattle.tcel_core.specs.Paths.{Point, at_item, at_test, points}
 use Rattle.tcel_core.specs.Plain.{plain_body}
@@ -199,6 +200,17 @@ parts_of s =
       vars = all_variables s;
       words = all_words (all_variables s) + loops s.body;
     }
+
+-- a task's body with its kept items
+abbrev pub slicing_of : Task → (ℕ → Bool) → Slicing
+slicing_of task kept = record { vars = task.vars; body = task.body; kept = kept }
+
+-- parts are a task's own: those by its kept set, where they need at most 65,536 words
+pub record AreOwnParts (task : Task) (parts : TaskParts) : Type 0 where
+  pub kept : ℕ → Bool
+  pub least : IsKeptSet task.body kept
+  pub are : parts ≡ parts_of (slicing_of task kept)
+  pub few : parts.words ≤ 65536
 
 -- the plain data that parts stand for
 abbrev pub plain_parts : Parts → TaskParts

@@ -4,7 +4,7 @@ use Rattle.std.specs.Prelude.{IfSome, MatchBool, min, slice_get}
 use Rattle.std.proofs.lemmas.Bool.{cases_Bool, cases_lt}
 use Rattle.tcel_num.specs.Plan.{Point, PointName, before, within}
 use Rattle.tcel_core.specs.declared.var.Var.{Var}
-use Rattle.tcel_core.specs.Contents.{has_event}
+use Rattle.tcel_core.specs.Contents.{has_event, hold_of}
 use Rattle.tcel_core.specs.Language.{Window, Block, done, next, Stmt, item, choice, timed}
 use Rattle.tcel_core.specs.Meaning.{exec, exec_act, exec_stmt}
 use Rattle.tcel_core.specs.Outcome.{Memory, Occurrence, EnclosingBlock, enclosed}
@@ -12,7 +12,6 @@ use Rattle.tcel_core.specs.Windows.{latest, lesser, start_bound}
 use Rattle.tcel_core.specs.Scope.{Fits, StmtFits, IsUntimed, StmtIsUntimed, LoopsAreUntimed, StmtLoopsAreUntimed}
 use Rattle.tcel_core.proofs.Bodies.{ArePlain, act_plain, block_quiet}
 use Rattle.tcel_target.specs.declared.costs.Costs.{Costs}
-use Rattle.tcel_cost.specs.Hold.{hold_of}
 use Rattle.tcel_cost.specs.Expressions.{expr_cycles}
 use Rattle.tcel_cost.specs.Walks.{Counts, Walks, IsGreatest, IsLast, FirstAt, LastAt, IsFirstCount, IsLastCount, held_entry}
 use Rattle.tcel_cost.specs.Plans.{ArePoints, AreStmtPoints, AreBlockPoints, IsPointFor}

@@ -6,3 +6,14 @@ pub mod BranchingExample
 pub mod LoopExamples
 pub mod WindowedPlan
 pub mod FormPlans
+pub mod WorkedPlans
+mod TestTasks
+pub mod UniquePlans
+pub mod CostTotals
+pub mod PointCosts
+pub mod PlanCosts
+pub mod PartCosts
+pub mod CostLaws
+pub mod CostRooms
+pub mod CostSets
+pub mod CostWalks

@@ -1,7 +1,7 @@
 -- The walks of loops without events, worked out.
 use Rattle.std.proofs.Common.{◌≡◌, ◌≤◌, ◌+◌, ◌*◌, ◌++◌, ℕ, zero, suc, [], ◌∷◌, List, Some, None, refl, sym, ap, ◌∙◌, subst, inl, inr, arith}
 use Rattle.tcel_core.specs.Examples.{for_body, while_body, loop_vars}
-use Rattle.tcel_cost.specs.Examples.{many_costs}
+use Rattle.tcel_target.specs.Examples.{many_costs}
 use Rattle.tcel_cost.specs.Walks.{Counts, Walks, IsTotal, IsQuietCount, IsFirstCount, Passes, Rounds, RoundsUpTo, Then}
 
 -- every walk takes so many cycles and has no event

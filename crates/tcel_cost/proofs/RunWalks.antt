@@ -1,4 +1,5 @@
 -- The walks that a run of statements takes: of each `if` the branch that its test chooses.
+use Rattle.tcel_core.specs.Contents.{hold_of}
 use Rattle.std.proofs.Common.{◌≡◌, ℕ, ◌+◌, true, false, List, ◌++◌, length, sym, ap, ◌∙◌, subst, arith, length-append, append-nil, inl, inr}
 use Rattle.std.proofs.lemmas.Bool.{cond-true, cond-false}
 use Rattle.tcel_num.specs.Arithmetic.{holds}
@@ -8,7 +9,6 @@ use Rattle.tcel_core.specs.Meaning.{exec, exec_act, exec_stmt, value}
 use Rattle.tcel_core.specs.Outcome.{Memory, Occurrence, Outcome}
 use Rattle.tcel_core.proofs.Bodies.{length-enclosed}
 use Rattle.tcel_target.specs.declared.costs.Costs.{Costs}
-use Rattle.tcel_cost.specs.Hold.{hold_of}
 use Rattle.tcel_cost.specs.Expressions.{expr_cycles}
 use Rattle.tcel_cost.specs.Walks.{Counts, Walks, StmtWalks, ActWalks, Then, Either, Passes, held_entry, jump_cost}
 

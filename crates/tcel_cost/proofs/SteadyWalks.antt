@@ -1,9 +1,9 @@
 -- Walks have their events in order, and from a later entry there are walks with as many events, each no earlier.
+use Rattle.tcel_core.specs.Contents.{hold_of}
 use Rattle.std.proofs.Common.{ℕ, zero, suc, ◌+◌, ◌≤◌, List, [], ◌∷◌, ◌++◌, refl, sym, subst, arith, Option, Some, None, inl, inr}
 use Rattle.tcel_core.specs.declared.var.Var.{Var}
 use Rattle.tcel_core.specs.Language.{Block, done, next, Stmt, item, choice, timed, Act, assign, assign_at, receive, send, for_loop, while_loop, copy}
 use Rattle.tcel_target.specs.declared.costs.Costs.{Costs}
-use Rattle.tcel_cost.specs.Hold.{hold_of}
 use Rattle.tcel_cost.specs.Expressions.{expr_cycles}
 use Rattle.tcel_cost.specs.Steady.{AreInOrder, AreLater, Delayed, IsSteady}
 use Rattle.tcel_cost.specs.Walks.{Counts, Walks, StmtWalks, ActWalks, Then, Either, Rounds, RoundsUpTo, Passes, Shows, held_entry, jump_cost}
@@ -123,7 +123,7 @@ upto_steady n round last h g = record {
     all_steady : IsSteady (Rounds n round)
     all_steady = rounds_steady n round h
 
-held_later : (hold : Option ℕ) (entry : ℕ) → entry ≤ held_entry hold entry
+pub held_later : (hold : Option ℕ) (entry : ℕ) → entry ≤ held_entry hold entry
 held_later None entry = omega arith
 held_later (Some bound) entry = omega arith
 

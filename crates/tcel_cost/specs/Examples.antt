@@ -1,36 +1,15 @@
 -- Worked examples.
-use Rattle.std.specs.Prelude.{pos, true, List, [], ◌∷◌, Some, codes}
+use Rattle.std.specs.Prelude.{ℕ, pos, true, List, [], ◌∷◌, ◌++◌, Some, codes}
 use Rattle.tcel_num.specs.declared.op.Op.TheVariants as ops
 use Rattle.tcel_num.specs.Plan.{Plan, frame, before, within}
 use Rattle.tcel_core.specs.declared.var.Var.{Var}
 use Rattle.tcel_core.specs.declared.var.VarKind.{VarKind}
 use Rattle.tcel_core.specs.declared.var.Keep.{Keep}
 use Rattle.tcel_core.specs.Examples.{counter, counter_vars, int_var, one, plus}
-use Rattle.tcel_core.specs.Language.{number, variable, binary, Block, done, next, item, choice, timed, assign, receive, send, Task}
-use Rattle.tcel_target.specs.declared.costs.Costs.{Costs}
+use Rattle.tcel_core.specs.Language.{number, variable, binary, Block, done, next, item, choice, timed, assign, receive, send, copy, Task}
+use Rattle.tcel_core.specs.Parts.{TaskParts}
+use Rattle.tcel_core.specs.SlicingExamples.{added_var, branch_body, branch_first, branch_rest, branch_task, branch_vars, step_body, step_first, step_rest, step_vars}
 use Rattle.tcel_cost.specs.Forms.{Form, whole_form}
-
--- a processor where each cost is another
-abbrev pub many_costs : Costs
-many_costs =
-    record {
-      const_ = 1;
-      load = 2;
-      store = 3;
-      load_at = 5;
-      store_at = 4;
-      arith = 6;
-      multiply = 8;
-      divide = 7;
-      jump = 10;
-      branch = 9;
-      loop_ = 11;
-      receive = 12;
-      send = 13;
-      mark = 14;
-      end = 16;
-      dispatch = 15;
-    }
 
 -- n, y and x
 abbrev pub branching_vars : List Var
@@ -184,3 +163,63 @@ abbrev pub late_plans : List Plan
 late_plans =
     record { period = 30; total = 4; points = record { prefix = 3; bound = 30; name = frame } ∷ [] }
     ∷ record { period = 6; total = 5; points = record { prefix = 4; bound = 6; name = frame } ∷ [] } ∷ []
+
+-- ---- tasks of which slicing copies values
+
+-- a task of the worked bodies of slicing, each 30 ticks
+abbrev pub worked_task : List Var → Block → Task
+worked_task vars body = record branch_task { vars = vars; body = body }
+
+-- its form by its parts
+abbrev pub worked_form : List Var → Block → TaskParts → Form
+worked_form vars body parts = record { task = worked_task vars body; sliced = true; parts = parts }
+
+-- its plan, without a block
+abbrev pub worked_plan : ℕ → ℕ → Plan
+worked_plan prefix total = record { period = 30; total = total; points = record { prefix = prefix; bound = 30; name = frame } ∷ [] }
+
+-- receive x from s; n := n + x; x := x + 1; send x to o; with the second statement left for the rest, and x a local
+abbrev pub sliced_step : Form
+sliced_step =
+    worked_form (step_vars Keep.Local) step_body
+    (record {
+      first = step_first;
+      rest = step_rest;
+      vars = step_vars Keep.Local ++ (added_var VarKind.Int ∷ added_var VarKind.Int ∷ []);
+      words = 4;
+    })
+
+-- the same where x is a state, so that its last value is handed on too
+abbrev pub sliced_state_step : Form
+sliced_state_step =
+    worked_form (step_vars Keep.State) step_body
+    (record {
+      first =
+          next (item 0 (receive 2 0))
+          (next (item 0 (copy 2 3))
+          (next (item 2 (assign 2 (plus 2 one))) (next (item 0 (copy 2 4)) (next (item 3 (send (variable 2) 0)) done))));
+      rest =
+          next (item 0 (copy 3 1)) (next (item 1 (assign 0 (plus 0 (variable 1)))) (next (item 0 (copy 4 1)) done));
+      vars = step_vars Keep.State ++ (added_var VarKind.Int ∷ added_var VarKind.Int ∷ added_var VarKind.Int ∷ []);
+      words = 5;
+    })
+
+-- receive x from s; if x > 0 { y := x; send y to o; } else { y := 5; n := n + y; } y := 7; send y to o; with the `if` in both parts
+abbrev pub sliced_branch : Form
+sliced_branch =
+    worked_form branch_vars branch_body
+    (record {
+      first = branch_first;
+      rest = branch_rest;
+      vars = branch_vars ++ (added_var VarKind.Int ∷ added_var VarKind.Int ∷ added_var VarKind.Bool ∷ []);
+      words = 6;
+    })
+
+-- the three, and the first and the last as a whole
+abbrev pub worked_forms : List Form
+worked_forms =
+    sliced_step ∷ sliced_state_step ∷ sliced_branch ∷ whole_form (worked_task (step_vars Keep.Local) step_body)
+    ∷ whole_form (worked_task branch_vars branch_body) ∷ []
+
+abbrev pub worked_plans : List Plan
+worked_plans = worked_plan 10 17 ∷ worked_plan 12 21 ∷ worked_plan 18 29 ∷ worked_plan 12 13 ∷ worked_plan 16 17 ∷ []

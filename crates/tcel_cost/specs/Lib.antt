@@ -1,8 +1,12 @@
+pub mod Answers
+pub mod Bodies
+pub mod CostSteps
 pub mod Examples
 pub mod Expressions
 pub mod Forms
-pub mod Hold
+pub mod PointSteps
 pub mod Plans
+pub mod Rooms
 pub mod Steady
 pub mod Walks
 pub mod WholePlan

@@ -4,8 +4,7 @@ use Rattle.tcel_num.specs.Plan.{Plan, Point, PointName, frame, before, within}
 use Rattle.tcel_core.specs.declared.var.Var.{Var}
 use Rattle.tcel_core.specs.Language.{Window, Block, done, next, Stmt, item, choice, timed}
 use Rattle.tcel_target.specs.declared.costs.Costs.{Costs}
-use Rattle.tcel_core.specs.Contents.{has_event}
-use Rattle.tcel_cost.specs.Hold.{hold_of}
+use Rattle.tcel_core.specs.Contents.{has_event, hold_of}
 use Rattle.tcel_cost.specs.Expressions.{expr_cycles}
 use Rattle.tcel_cost.specs.Forms.{Form}
 use Rattle.tcel_cost.specs.Walks.{Counts, Walks, StmtWalks, IsTotal, IsFirstCount, IsLastCount, held_entry}

@@ -5,8 +5,7 @@ use Rattle.tcel_core.specs.declared.var.Var.{Var}
 use Rattle.tcel_core.specs.Cells.{width}
 use Rattle.tcel_core.specs.Language.{Block, done, next, Stmt, item, choice, timed, Act, assign, assign_at, receive, send, for_loop, while_loop, copy}
 use Rattle.tcel_target.specs.declared.costs.Costs.{Costs}
-use Rattle.tcel_core.specs.Contents.{has_statement}
-use Rattle.tcel_cost.specs.Hold.{hold_of}
+use Rattle.tcel_core.specs.Contents.{has_statement, hold_of}
 use Rattle.tcel_cost.specs.Expressions.{expr_cycles}
 
 -- from an entry count to an end count, with the counts of the events

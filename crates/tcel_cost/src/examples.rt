@@ -1,7 +1,8 @@
 ghost use Rattle.std.specs.Prelude.{[], ◌∷◌, None, Some};
 ghost use Rattle.tcel_core.specs.Examples.{for_body, while_body, loop_vars};
 ghost use Rattle.tcel_target.specs.Costs.{unit_costs};
-ghost use Rattle.tcel_cost.specs.Examples.{branching_body, branching_vars, late_plans, many_costs, often_task, overrunning, overrunning_plans, pair, pair_plans, rare_task, sliced_counter, sliced_counter_plan, windowed_plan, windowed_task};
+ghost use Rattle.tcel_cost.specs.Examples.{branching_body, branching_vars, late_plans, often_task, overrunning, overrunning_plans, pair, pair_plans, rare_task, sliced_counter, sliced_counter_plan, windowed_plan, windowed_task, worked_forms, worked_plans};
+ghost use Rattle.tcel_target.specs.Examples.{many_costs};
 ghost use Rattle.tcel_cost.specs.Plans.{ArePlans};
 ghost use Rattle.tcel_cost.specs.Walks.{IsFirstCount, IsQuietCount, IsTotal, Walks};
 ghost use Rattle.tcel_cost.specs.WholePlan.{AreWholePlans};
@@ -23,5 +24,6 @@ pub fn plan_examples()
     ensures pair { AreWholePlans pair unit_costs pair_plans }
     ensures sliced { ArePlans (sliced_counter ∷ []) unit_costs (sliced_counter_plan ∷ []) }
     ensures overrunning { ArePlans overrunning unit_costs overrunning_plans }
+    ensures worked { ArePlans worked_forms unit_costs worked_plans }
     ensures late { AreWholePlans (rare_task ∷ often_task ∷ []) unit_costs late_plans }
 {}

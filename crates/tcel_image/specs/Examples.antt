@@ -3,8 +3,8 @@ use Rattle.std.specs.Prelude.{ℕ, pos, negsuc, List, [], ◌∷◌, false, code
 use Rattle.tcel_num.specs.declared.op.Op.TheVariants.{Add, Mul, Div, Neg}
 use Rattle.tcel_num.specs.Entry.{Entry, What, receive, send, first, end}
 use Rattle.tcel_image.specs.Machine.{Streams}
-use Rattle.tcel_target.specs.declared.costs.Costs.{Costs}
 use Rattle.tcel_target.specs.Costs.{unit_costs}
+use Rattle.tcel_target.specs.Examples.{many_costs}
 use Rattle.tcel_image.specs.declared.image.Image.{Image}
 use Rattle.tcel_image.specs.declared.image.ImageTask.{ImageTask}
 use Rattle.tcel_image.specs.declared.flaw.Flaw.{Flaw}
@@ -99,28 +99,6 @@ started_trace =
     ∷ entry 16 1 0 (send 0 (pos 1)) ∷ entry 19 0 2 (send 0 (pos 1)) ∷ entry 20 0 2 first
     ∷ entry 21 0 2 (end []) ∷ entry 22 1 0 first ∷ entry 23 1 0 (end [])
     ∷ entry 27 0 3 (send 0 (pos 1)) ∷ entry 28 0 3 first ∷ entry 29 0 3 (end []) ∷ []
-
--- each cost is another
-abbrev pub many_costs : Costs
-many_costs =
-    record {
-      const_ = 1;
-      load = 2;
-      store = 3;
-      load_at = 5;
-      store_at = 4;
-      arith = 6;
-      multiply = 8;
-      divide = 7;
-      jump = 10;
-      branch = 9;
-      loop_ = 11;
-      receive = 12;
-      send = 13;
-      mark = 14;
-      end = 16;
-      dispatch = 15;
-    }
 
 -- a high task that sends the opposite of what it receives, and a low one that fills an array in a loop, copies it, branches on a quotient and waits
 abbrev pub busy : Image

@@ -13,14 +13,14 @@ use Rattle.tcel_core.specs.Language.{Block, done, next, Stmt, item, choice, time
 use Rattle.tcel_core.specs.Meaning.{exec}
 use Rattle.tcel_core.specs.Numbering.{item_numbers, if_numbers}
 use Rattle.tcel_core.specs.Outcome.{Memory, Occurrence, Outcome}
-use Rattle.tcel_core.specs.Parts.{Added, copy_of, saved, truth_of, added, added_variable, number_of, all_variables, inside_number, variables, first_of_block, first_part, fetches, rest_of_block}
+use Rattle.tcel_core.specs.Parts.{Added, copy_of, saved, truth_of, added, added_variable, number_of, all_variables, inside_number, variables, first_of_block, first_part, fetches, rest_of_block, slicing_of}
 use Rattle.tcel_core.specs.Paths.{Point, at_item, at_test, points, point_writes, meets, on_some_path}
 use Rattle.tcel_core.specs.Sound.{is_local}
 use Rattle.tcel_core.specs.Typing.{IsTyped}
 use Rattle.tcel_core.specs.Uses.{act_writes, block_writes}
 use Rattle.tcel_core.proofs.MeaningLaws.{exec-joined}
 use Rattle.tcel_parts.specs.Rows.{row, row_before, stmt_row}
-use Rattle.tcel_parts.specs.SliceLaw.{DoTheSame, PartsMeanTheBody, slicing_of}
+use Rattle.tcel_parts.specs.SliceLaw.{DoTheSame, PartsMeanTheBody}
 use Rattle.tcel_parts.proofs.Alike.{Alike, either, has_place}
 use Rattle.tcel_parts.proofs.Context.{needed, wanted, whole, kind_2_writes, kind_3_alone, kind_of_variable}
 use Rattle.tcel_parts.proofs.Copies.{Copied, AreApart, copies_do}

@@ -16,3 +16,4 @@ pub mod OwnNames
 pub mod RestRuns
 pub mod States
 pub mod Assembly
+pub mod FittingParts

@@ -4,11 +4,10 @@ use Rattle.tcel_core.specs.declared.var.Var.{Var}
 use Rattle.tcel_core.specs.Cells.{all_words}
 use Rattle.tcel_core.specs.Frames.{state_of}
 use Rattle.tcel_core.specs.Kept.{IsKeptSet}
-use Rattle.tcel_core.specs.Kinds.{Slicing}
 use Rattle.tcel_core.specs.Language.{Task}
 use Rattle.tcel_core.specs.Meaning.{exec}
 use Rattle.tcel_core.specs.Outcome.{Memory, Outcome}
-use Rattle.tcel_core.specs.Parts.{TaskParts, parts_of}
+use Rattle.tcel_core.specs.Parts.{TaskParts, parts_of, slicing_of}
 use Rattle.tcel_core.specs.Sound.{IsSoundTask}
 
 -- two runs, one after the other, do what a whole one does: the first makes its events, in their blocks, the second none,
@@ -27,10 +26,6 @@ MeanTheBody task parts =
     let beside : Memory = record { cells = cells ++ others; inputs = inputs } in
     let first = exec parts.first parts.vars beside in
     DoTheSame task.vars parts.vars (exec task.body task.vars before) first (exec parts.rest parts.vars first.memory)
-
--- a task's body with its kept items
-abbrev pub slicing_of : Task → (ℕ → Bool) → Slicing
-slicing_of task kept = record { vars = task.vars; body = task.body; kept = kept }
 
 -- the parts of a checked task by its kept set mean its body
 abbrev pub PartsMeanTheBody : Type 0

@@ -3,4 +3,4 @@
 
 mod law;
 
-pub use law::parts_mean_the_body;
+pub use law::{own_parts_are_in_scope, parts_mean_the_body};

@@ -3,7 +3,6 @@ pub mod Assembled
 pub mod Finding
 pub mod FindingLive
 pub mod FindingSplits
-pub mod FittingParts
 pub mod Growing
 pub mod NumberLists
 pub mod NumbersFound

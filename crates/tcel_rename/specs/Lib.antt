@@ -1,5 +1,4 @@
 pub mod Answer
-pub mod Fitting
 pub mod Halves
 pub mod Lives
 pub mod Numbers

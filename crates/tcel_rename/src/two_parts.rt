@@ -4,13 +4,13 @@ ghost use Rattle.tcel_core.specs.Contents.{act_loops, loops, stmt_loops};
 ghost use Rattle.tcel_core.specs.Kept.{IsKeptSet};
 ghost use Rattle.tcel_core.specs.Language.{Block};
 ghost use Rattle.tcel_core.specs.Numbering.{item_numbers};
-ghost use Rattle.tcel_core.specs.Parts.{fetches, parts_of, plain_parts};
+ghost use Rattle.tcel_core.specs.Parts.{AreOwnParts, fetches, parts_of, plain_parts, slicing_of};
 ghost use Rattle.tcel_core.specs.Plain.{plain_body, plain_item, plain_stmt, plain_task};
 ghost use Rattle.tcel_core.specs.Sound.{IsSoundTask};
 ghost use Rattle.tcel_core.specs.declared.var.Var.{Var};
-ghost use Rattle.tcel_parts.specs.SliceLaw.{MeanTheBody, slicing_of};
+ghost use Rattle.tcel_parts.specs.SliceLaw.{MeanTheBody};
 ghost use Rattle.tcel_rename.specs.Answer.{Refuses};
-ghost use Rattle.tcel_rename.specs.Fitting.{PartsFit};
+ghost use Rattle.tcel_parts.specs.Fitting.{PartsAreInScope};
 ghost use Rattle.tcel_rename.specs.Halves.{IsPlan, stmts_of};
 ghost use Rattle.tcel_rename.specs.Sets.{by_list};
 ghost use Rattle.tcel_slice.specs.Keeping.{marked};
@@ -40,9 +40,10 @@ pub fn parts(alloc: Global, task: &CoreTask, kept: &ItemSet) -> Result<Parts, Pa
     requires sound { IsSoundTask (plain_task task.now) }
     requires kept { IsKeptSet (plain_body task.now.body) (marked kept.now.list) }
     requires items { length kept.now.list ≡ length (item_numbers (plain_body task.now.body)) }
+    ensures own { IfOk result (λ p. AreOwnParts (plain_task task.now) (plain_parts p)) }
     ensures parts { IfOk result (λ p. plain_parts p ≡ parts_of (slicing_of (plain_task task.now) (marked kept.now.list))) }
     ensures words { IfOk result (λ p. p.words ≤ 65536) }
-    ensures fits { IfOk result (λ p. PartsFit (plain_task task.now) (plain_parts p)) }
+    ensures scope { IfOk result (λ p. PartsAreInScope (plain_task task.now) (plain_parts p)) }
     ensures law { IfOk result (λ p. MeanTheBody (plain_task task.now) (plain_parts p)) }
     ensures refused { IfErr result (Refuses (parts_of (slicing_of (plain_task task.now) (marked kept.now.list))).words) }
 {

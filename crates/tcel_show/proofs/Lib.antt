@@ -1,5 +1,4 @@
 pub mod Ending
-pub mod Forms
 pub mod LaidTokens
 pub mod PutExprs
 pub mod PutStmts

@@ -13,7 +13,7 @@ use Rattle.tcel_grammar.specs.Expressions.{Level, disjunction, factor, atom, lev
 use Rattle.tcel_show.specs.declared.writer.Writer.{Writer}
 use Rattle.tcel_show.specs.Canonical.{expr_tokens, left_place, right_place, rank, op_token}
 use Rattle.tcel_show.specs.Puts.{Puts}
-use Rattle.tcel_show.proofs.Forms.{element_form, unary_form, binary_form}
+use Rattle.tcel_tree.proofs.Forms.{element_form, unary_form, binary_form}
 use Rattle.tcel_show.proofs.Putting.{puts_cons, puts_then, puts_same, puts_enclosed, if_put}
 
 -- an expression and the level that its place takes; an operand is read out of its box

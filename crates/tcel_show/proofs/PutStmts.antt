@@ -17,7 +17,7 @@ use Rattle.tcel_tree.specs.Plain.{plain_expr, plain_stmt, plain_block, block_of}
 use Rattle.tcel_show.specs.declared.writer.Writer.{Writer}
 use Rattle.tcel_show.specs.Canonical.{block_tokens, braced, for_head, limit_tokens, stmt_tokens, whole_tokens, window_tokens, word, sign}
 use Rattle.tcel_show.specs.Puts.{Puts}
-use Rattle.tcel_show.proofs.Forms.{choice_form, for_form, while_form, timed_form}
+use Rattle.tcel_tree.proofs.Forms.{choice_form, for_form, while_form, timed_form}
 use Rattle.tcel_show.proofs.Putting.{puts_cons, puts_then, puts_same, if_put}
 
 block_push : (ss : List Stmt) (s : Stmt) → block_tokens (block_of (ss ++ s ∷ [])) ≡ block_tokens (block_of ss) ++ stmt_tokens s

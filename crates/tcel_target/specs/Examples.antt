@@ -14,3 +14,25 @@ dispatched_text = unit_text ++ codes "dispatch = 7\n"
 
 abbrev pub dispatched : Costs
 dispatched = record unit_costs { dispatch = 7 }
+
+-- a processor where each cost is another
+abbrev pub many_costs : Costs
+many_costs =
+    record {
+      const_ = 1;
+      load = 2;
+      store = 3;
+      load_at = 5;
+      store_at = 4;
+      arith = 6;
+      multiply = 8;
+      divide = 7;
+      jump = 10;
+      branch = 9;
+      loop_ = 11;
+      receive = 12;
+      send = 13;
+      mark = 14;
+      end = 16;
+      dispatch = 15;
+    }

@@ -1,5 +1,5 @@
 -- The parts of a checked task are in scope of the code's theorem.
-use Rattle.std.proofs.Common.{◌≡◌, ℕ, zero, suc, ◌<◌, Bool, true, false, cond, ◌||◌, List, [], ◌∷◌, map, filter, length, refl, subst, arith, inl, inr}
+use Rattle.std.proofs.Common.{◌≡◌, ℕ, zero, suc, ◌<◌, Bool, true, false, cond, ◌||◌, List, [], ◌∷◌, map, filter, length, refl, sym, subst, arith, inl, inr}
 use Rattle.std.specs.List.{AllByRecursion}
 use Rattle.std.proofs.lemmas.List.Elements.{recursion_from_All}
 use Rattle.tcel_core.specs.declared.var.Var.{Var}
@@ -9,20 +9,19 @@ use Rattle.tcel_core.specs.Frames.{is_state}
 use Rattle.tcel_core.specs.Kinds.{Slicing, holds_kept, is_fetched}
 use Rattle.tcel_core.specs.Language.{Expr, number, variable, element, unary, binary, Block, done, next, joined, Stmt, item, choice, timed, Act, assign, assign_at, receive, send, for_loop, while_loop, copy, Task}
 use Rattle.tcel_core.specs.Limits.{IsCount, IsWithinBounds, StmtIsWithinBounds, ActIsWithinBounds}
-use Rattle.tcel_core.specs.Parts.{added, added_variable, all_variables, copies, copy_of, fetches, first_of_block, first_of_stmt, has_rest, inside_number, is_split, live_variables, number_of, parts_of, renamed_act, renamed_block, renamed_expr, renamed_stmt, rest_of_block, rest_of_stmt, restores, saved, saves, split_choice, truth_of, variables}
+use Rattle.tcel_core.specs.Parts.{AreOwnParts, TaskParts, added, added_variable, all_variables, copies, copy_of, fetches, first_of_block, first_of_stmt, has_rest, inside_number, is_split, live_variables, number_of, parts_of, renamed_act, renamed_block, renamed_expr, renamed_stmt, rest_of_block, rest_of_stmt, restores, saved, saves, split_choice, truth_of, variables, slicing_of}
 use Rattle.tcel_core.specs.Paths.{Point, at_item, at_test, points, stmt_points}
 use Rattle.tcel_core.specs.Scope.{ActFits, ActIsUntimed, AreAlike, AreTurns, Fits, HasWord, HaveOperands, IsInScope, IsSound, IsUntimed, LoopsAreUntimed, StmtFits, StmtIsUntimed, StmtLoopsAreUntimed}
 use Rattle.tcel_core.specs.Sound.{IsDeclared, IsKind, IsSoundTask}
 use Rattle.tcel_core.specs.Typing.{ActIsTyped, HasType, IsScalar, IsTyped, StmtIsTyped, ValueType, bool, int, operand_type}
 use Rattle.tcel_core.proofs.Scope.{array_within}
-use Rattle.tcel_parts.specs.SliceLaw.{slicing_of}
 use Rattle.tcel_parts.proofs.Alike.{IsRenaming, scalar_some, scalar_there}
 use Rattle.tcel_parts.proofs.Members.{In, in_left, in_mapped, in_right}
 use Rattle.tcel_parts.proofs.NewVariables.{inside_renames, own_renames, truth_in, width_added, width_copy, width_saved}
 use Rattle.tcel_parts.proofs.PartsProper.{fetch_wide, fetched_is, live_kind, own_act, own_expr, restore_wide, save_wide}
 use Rattle.tcel_parts.proofs.PartsWrite.{live_is}
 use Rattle.tcel_parts.proofs.States.{state_words-append}
-use Rattle.tcel_rename.specs.Fitting.{PartsFit}
+use Rattle.tcel_parts.specs.Fitting.{OwnPartsAreInScope, PartsAreInScope}
 
 -- ---- a part of statements
 
@@ -285,7 +284,7 @@ module _ (task : Task) (kept : ℕ → Bool) (sound : IsSoundTask task) where
   none_added : (x : Var) → In (map (added_variable task.vars) (added s)) x → is_state x.keep ≡ false
   none_added x h = let r = in_mapped (added_variable task.vars) (added s) x h in subst (λ (y : Var). is_state y.keep ≡ false) r.2 refl
 
-  pub parts_fit : PartsFit task (parts_of s)
+  pub parts_fit : PartsAreInScope task (parts_of s)
   parts_fit =
       record {
         states = state_words-append task.vars (map (added_variable task.vars) (added s)) none_added;
@@ -299,3 +298,6 @@ module _ (task : Task) (kept : ℕ → Bool) (sound : IsSoundTask task) where
             (copies_untimed_loops (λ v. v) (λ v. number_of s (copy_of v)) (filter (is_fetched s) (variables s))) (first_untimed s task.body sound.body.untimed);
         untimed = rest_untimed s task.body sound.body.untimed;
       }
+
+pub own_parts_fit : OwnPartsAreInScope
+own_parts_fit task parts sound own = subst (PartsAreInScope task) (sym own.are) (parts_fit task own.kept sound)

@@ -1,0 +1,10 @@
+use Rattle.tcel_cost.proofs.TestTasks.{dear_parts, dear_sound}
+use Rattle.tcel_cost.proofs.tests.given_dear.Goals as goal
+
+pub returns : goal.returns
+returns c = record {
+  sound = rw (c.given-both.ensures.task, c.in_ok-task.ensures, c.in_ok-vars.ensures, c.in_ok-body.ensures) dear_sound;
+  own =
+      rw (c.given-both.ensures.task, c.in_ok-task.ensures, c.in_ok-vars.ensures, c.in_ok-body.ensures, c.given-both.ensures.parts, c.in_ok-rest.ensures, c.nothing.ensures, c.in_ok-own.ensures)
+      dear_parts;
+}
