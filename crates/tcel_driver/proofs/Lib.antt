@@ -1,0 +1,13 @@
+pub mod ChoiceExamples
+pub mod Choosing
+pub mod Chosen
+pub mod Costed
+pub mod FirstLates
+pub mod Joint
+pub mod Lists
+pub mod OneAnswer
+pub mod OneForms
+pub mod SamePeriods
+pub mod SoundRows
+pub mod Refusing
+pub mod Results

@@ -1,0 +1,7 @@
+pub mod Choice
+pub mod Examples
+pub mod Forms
+pub mod Laws
+pub mod Refusals
+pub mod Rows
+pub mod Steps
