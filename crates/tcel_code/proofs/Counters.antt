@@ -5,9 +5,9 @@ use Rattle.std.specs.List.{AllByRecursion}
 use Rattle.std.proofs.lemmas.Bool.{cond_both, eq-eqb, false≢true}
 use Rattle.tcel_core.specs.declared.var.Var.{Var}
 use Rattle.tcel_core.specs.Cells.{all_words}
-use Rattle.tcel_core.specs.Contents.{act_loops, loops, stmt_loops}
+use Rattle.tcel_core.specs.Contents.{act_loops, loops, stmt_loops, Looped, item_loops, stmt_item_loops, loops_before}
 use Rattle.tcel_core.specs.Language.{Block, done, next, Stmt, item, choice, timed, Act}
-use Rattle.tcel_code.specs.Counters.{Looped, Counters, by_item, in_order, counter_of, behind, counters_of, item_loops, stmt_item_loops, loops_before, HasItsCounters, HaveTheirCounters}
+use Rattle.tcel_code.specs.Counters.{Counters, by_item, in_order, counter_of, behind, counters_of, HasItsCounters, HaveTheirCounters}
 
 -- the counters of so many loops begin at a cell: it is among so many behind the words of the variables, and none of the lowest of these
 pub record AreCounters (vars : List Var) (cell low room n : ℕ) : Type 0 where

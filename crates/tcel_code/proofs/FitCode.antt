@@ -4,7 +4,7 @@ use Rattle.std.specs.List.{AllByRecursion}
 use Rattle.std.proofs.lemmas.Bool.{false≢true}
 use Rattle.tcel_core.specs.declared.var.Var.{Var}
 use Rattle.tcel_core.specs.Cells.{all_words, place, width}
-use Rattle.tcel_core.specs.Contents.{has_statement, loops, stmt_loops}
+use Rattle.tcel_core.specs.Contents.{has_statement, loops, stmt_loops, hold_of}
 use Rattle.tcel_core.specs.Language.{Expr, number, variable, element, unary, binary, Block, done, next, Stmt, item, choice, timed, Act, assign, assign_at, receive, send, for_loop, while_loop, copy}
 use Rattle.tcel_core.specs.Scope.{Fits, StmtFits, ActFits, HaveOperands, IsInScope, HasWord, IsSound}
 use Rattle.tcel_core.proofs.Scope.{array_within}
@@ -15,7 +15,6 @@ use Rattle.tcel_image.specs.declared.image.Line.{Line}
 use Rattle.tcel_image.specs.Instructions.{Range, ranges, next_places, pops, pushes}
 use Rattle.tcel_image.specs.Validity.{is_end}
 use Rattle.tcel_image.proofs.FitLines.{Leads, PortIsThere, AreFit, fit-append}
-use Rattle.tcel_cost.specs.Hold.{hold_of}
 use Rattle.tcel_code.specs.Code.{at, expr_code, hold_code, held_length, branches_code, block_code, stmt_code, act_code}
 use Rattle.tcel_code.specs.Counters.{Counters, in_order, counter_of, behind}
 use Rattle.tcel_code.specs.Compilable.{IsWithin, StmtIsWithin, ActIsWithin, height}

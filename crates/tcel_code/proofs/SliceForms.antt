@@ -8,9 +8,9 @@ use Rattle.tcel_core.specs.Frames.{start_cells, state_words}
 use Rattle.tcel_core.specs.Language.{Task}
 use Rattle.tcel_core.specs.Meaning.{exec}
 use Rattle.tcel_core.specs.Outcome.{Memory}
-use Rattle.tcel_core.specs.Parts.{Added, TaskParts, added, added_variable, parts_of}
+use Rattle.tcel_core.specs.Parts.{Added, TaskParts, added, added_variable, parts_of, slicing_of}
 use Rattle.tcel_core.proofs.StateWords.{length-start_cells, states_within}
-use Rattle.tcel_parts.specs.SliceLaw.{DoTheSame, MeanTheBody, slicing_of}
+use Rattle.tcel_parts.specs.SliceLaw.{DoTheSame, MeanTheBody}
 use Rattle.tcel_parts.proofs.Assembly.{parts_mean_the_body}
 use Rattle.tcel_code.specs.PartsFit.{PartsMean, SlicesMean}
 

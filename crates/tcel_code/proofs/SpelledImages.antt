@@ -10,7 +10,7 @@ use Rattle.std.proofs.lemmas.List.Elements.{All-from_recursion}
 use Rattle.std.proofs.lemmas.Option.{slice_get_within}
 use Rattle.tcel_core.specs.declared.var.Var.{Var}
 use Rattle.tcel_core.specs.Cells.{place, width}
-use Rattle.tcel_core.specs.Contents.{has_event, has_statement, loops}
+use Rattle.tcel_core.specs.Contents.{has_event, has_statement, loops, hold_of}
 use Rattle.tcel_core.specs.Language.{Expr, number, variable, element, unary, binary, Window, Block, done, next, Stmt, item, choice, timed, Act, assign, assign_at, receive, send, for_loop, while_loop, copy}
 use Rattle.tcel_core.proofs.StateWords.{states_within}
 use Rattle.tcel_image.specs.declared.image.ImageTask.{ImageTask}
@@ -21,7 +21,6 @@ use Rattle.tcel_image.specs.Instructions.{pops}
 use Rattle.tcel_image.specs.Spelling.{IsLength, IsWord, InstrInRange, LineInRange, TaskInRange}
 use Rattle.tcel_image.proofs.FitLines.{Leads, IsFit, AreFit, IsFitTask}
 use Rattle.tcel_cost.specs.Forms.{Form}
-use Rattle.tcel_cost.specs.Hold.{hold_of}
 use Rattle.tcel_code.specs.Code.{at, expr_code, hold_code, branches_code, held_length, block_code, stmt_code, act_code}
 use Rattle.tcel_code.specs.Compilable.{IsCompilable}
 use Rattle.tcel_code.specs.Counters.{Counters, in_order, counter_of, behind, counters_of}

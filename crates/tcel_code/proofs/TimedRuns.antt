@@ -3,7 +3,7 @@ use Rattle.std.proofs.Common.{◌≡◌, ℕ, ◌+◌, ◌⊎◌, true, ℤ, Lis
 use Rattle.std.specs.Prelude.{max, unwrap_or}
 use Rattle.std.proofs.lemmas.Bool.{cases_Bool, cond-true}
 use Rattle.tcel_core.specs.declared.var.Var.{Var}
-use Rattle.tcel_core.specs.Contents.{has_event}
+use Rattle.tcel_core.specs.Contents.{has_event, hold_of}
 use Rattle.tcel_core.specs.Language.{Block, Window, timed}
 use Rattle.tcel_core.specs.Meaning.{exec}
 use Rattle.tcel_core.specs.Outcome.{Memory, Occurrence, enclosed}
@@ -11,7 +11,6 @@ use Rattle.tcel_core.specs.Scope.{Fits}
 use Rattle.tcel_core.proofs.Bodies.{block_quiet, length-enclosed, takes-enclosed}
 use Rattle.tcel_core.proofs.Remain.{takes}
 use Rattle.tcel_image.specs.declared.image.Line.{Line}
-use Rattle.tcel_cost.specs.Hold.{hold_of}
 use Rattle.tcel_code.specs.Code.{block_code, hold_code}
 use Rattle.tcel_cost.specs.Walks.{held_entry}
 use Rattle.tcel_code.proofs.Ahead.{Due, has_started, holds_on}

@@ -1,32 +1,11 @@
 -- Where the counters of loops stand: behind the words of the variables, in the order of the loops in the source.
 -- A part of a body may hold only some of them, and its items keep their numbers; so a counter goes by the number of its item in the source.
-use Rattle.std.specs.Prelude.{ℕ, ◌+◌, ◌<◌, ◌≤◌, ◌==◌, List, [], ◌∷◌, ◌++◌, if◌then◌else◌}
+use Rattle.std.specs.Prelude.{ℕ, ◌+◌, ◌<◌, ◌≤◌, List}
 use Rattle.std.specs.List.{AllByRecursion}
 use Rattle.tcel_core.specs.declared.var.Var.{Var}
 use Rattle.tcel_core.specs.Cells.{all_words}
-use Rattle.tcel_core.specs.Contents.{act_loops, loops}
-use Rattle.tcel_core.specs.Language.{Block, done, next, Stmt, item, choice, timed}
-
--- an item outside loops, by its number, with how many loops it holds
-pub record Looped : Type 0 where
-  pub id : ℕ
-  pub loops : ℕ
-
--- the items of a body in text order
-abbrev mutual
-  pub item_loops : Block → List Looped
-  item_loops done = []
-  item_loops (next s rest) = stmt_item_loops s ++ item_loops rest
-
-  pub stmt_item_loops : Stmt → List Looped
-  stmt_item_loops (item id act) = record { id = id; loops = act_loops act } ∷ []
-  stmt_item_loops (choice id test held other) = item_loops held ++ item_loops other
-  stmt_item_loops (timed id window body) = item_loops body
-
--- how many loops stand in front of the first item with a number
-abbrev pub loops_before : ℕ → List Looped → ℕ
-loops_before id [] = 0
-loops_before id (i ∷ items) = if i.id == id then 0 else i.loops + loops_before id items
+use Rattle.tcel_core.specs.Contents.{Looped, item_loops, loops, loops_before}
+use Rattle.tcel_core.specs.Language.{Block}
 
 -- the cells of the counters of statements
 pub data Counters : Type 0 where

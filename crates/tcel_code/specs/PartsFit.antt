@@ -5,10 +5,10 @@ use Rattle.tcel_core.specs.Language.{Task}
 use Rattle.tcel_core.specs.Meaning.{exec}
 use Rattle.tcel_core.specs.Outcome.{Memory}
 use Rattle.tcel_core.specs.Kept.{IsKeptSet}
-use Rattle.tcel_core.specs.Parts.{TaskParts, parts_of}
+use Rattle.tcel_core.specs.Parts.{TaskParts, parts_of, slicing_of}
 use Rattle.tcel_core.specs.Scope.{Fits, LoopsAreUntimed}
 use Rattle.tcel_core.specs.Sound.{IsSoundTask}
-use Rattle.tcel_parts.specs.SliceLaw.{DoTheSame, slicing_of}
+use Rattle.tcel_parts.specs.SliceLaw.{DoTheSame}
 use Rattle.tcel_cost.specs.Forms.{Form}
 use Rattle.tcel_code.specs.Counters.{HaveTheirCounters}
 

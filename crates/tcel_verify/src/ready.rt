@@ -30,7 +30,8 @@ impl Model for Ready {
 }
 
 impl Ready {
-    pub(crate) fn new(image: Image) -> Ready
+    /// An image that is known to be in range and valid, so that nothing is tested.
+    pub fn new(image: Image) -> Ready
         requires range { InRange image }
         requires valid { IsValid image }
         ensures { result ≡ image }

@@ -1,0 +1,13 @@
+pub mod CodeLengths
+pub mod Sits
+pub mod PartsReady
+pub mod TaskNames
+pub mod ReadyForms
+pub mod ImageLengths
+pub mod GeneratedImages
+pub mod PlaceTables
+pub mod FrontTables
+pub mod CodeSteps
+pub mod CodableForms
+pub mod StateLists
+pub mod FormLists
