@@ -1,5 +1,5 @@
 -- What holds of every call of a command.
-use Rattle.std.proofs.Common.{◌≡◌, ◌⊎◌, ◌<◌, ◌≤◌, ◌∙◌, ℕ, Bool, true, false, List, [], ◌∷◌, Option, Some, None, refl, sym, ap, subst, inl, inr, length, arith}
+use Rattle.std.proofs.Common.{◌≡◌, ◌≢◌, ◌⊎◌, ◌<◌, ◌≤◌, ◌∙◌, ℕ, Bool, true, false, List, [], ◌∷◌, Option, Some, None, refl, sym, ap, subst, inl, inr, length, arith}
 use Rattle.std.specs.Prelude.{IfSome, IsTrue, MatchOption}
 use Rattle.tcel_io.specs.InTurn.{AreTaken}
 use Rattle.tcel_io.specs.Shelf.{SeenShelf}
@@ -8,7 +8,9 @@ use Rattle.tcel_tool.specs.CommandLine.{word_at}
 use Rattle.tcel_tool.specs.CheckCommand.{status_at}
 use Rattle.tcel_tool.specs.Commands.{IsText, Refuses}
 use Rattle.tcel_tool.specs.ProgramText.{IsDeep, IsLexical}
-use Rattle.tcel_tool.specs.RunCommand.{RefusesImage, RefusesLines}
+use Rattle.tcel_tool.specs.RunCommand.{RefusesImage}
+use Rattle.tcel_tool.specs.ScriptText.{RefusesLines}
+use Rattle.tcel_tool.specs.SetChoice.{status_for}
 use Rattle.tcel_tool.specs.Stage.{Call, Stage, load, bound, test}
 use Rattle.tcel_tool.specs.Test.{Test}
 use Rattle.tcel_tool.specs.Test as tests
@@ -18,12 +20,17 @@ use Rattle.tcel_tool.specs.declared.status.Status.{Status}
 use Rattle.tcel_tool.specs.declared.status.Status.TheVariants as statuses
 use Rattle.tcel_check.specs.declared.mark.Row.{Row}
 use Rattle.tcel_check.specs.declared.mark.Row.TheVariants as rows
+use Rattle.tcel_driver.specs.declared.refused.Refused.{Refused}
+use Rattle.tcel_driver.specs.declared.refused.Refused.TheVariants as causes
+use Rattle.tcel_check.specs.Checked.{set_of}
+use Rattle.tcel_core.specs.Ports.{port_rows as set_rows}
 use Rattle.tcel_grammar.specs.declared.deep.Deep.{Deep}
 use Rattle.tcel_grammar.specs.declared.deep.Deep.TheVariants as deep
-use Rattle.tcel_image.specs.declared.image.Image.{Image}
+use Rattle.tcel_num.specs.declared.port_row.PortRow.{PortRow}
 use Rattle.tcel_num.specs.declared.at.At.{At}
 use Rattle.tcel_token.specs.declared.fail.LexFail.{LexFail}
 use Rattle.tcel_token.specs.declared.fail.LexFail.TheVariants as lex
+use Rattle.tcel_verify.specs.Ports.{port_rows}
 use Rattle.tcel_tool.proofs.TestLaws.{one_refusal, passes_or_refuses}
 
 -- a status that a test gives
@@ -46,13 +53,13 @@ image_refusal bytes statuses.NoMemory h = absurd h
 image_refusal bytes (statuses.ReadFault word) h = absurd h
 image_refusal bytes _ h = refl
 
-script_refusal : (given : Image) (lines : List ℕ) (status : Status) → RefusesLines given lines status → IsTrue (is_refusal status)
-script_refusal given lines statuses.Ok h = absurd h
-script_refusal given lines statuses.Words h = absurd h
-script_refusal given lines statuses.WriteFault h = absurd h
-script_refusal given lines statuses.NoMemory h = absurd h
-script_refusal given lines (statuses.ReadFault word) h = absurd h
-script_refusal given lines _ h = refl
+script_refusal : (ports : List PortRow) (lines : List ℕ) (status : Status) → RefusesLines ports lines status → IsTrue (is_refusal status)
+script_refusal ports lines statuses.Ok h = absurd h
+script_refusal ports lines statuses.Words h = absurd h
+script_refusal ports lines statuses.WriteFault h = absurd h
+script_refusal ports lines statuses.NoMemory h = absurd h
+script_refusal ports lines (statuses.ReadFault word) h = absurd h
+script_refusal ports lines _ h = refl
 
 lexical_refusal : (fail : LexFail) (status : Status) → IsLexical fail status → IsTrue (is_refusal status)
 lexical_refusal (lex.BadByte at) status h = becomes status _ h refl
@@ -68,16 +75,25 @@ mark_refusal : (at : At) (row : Row) (status : Status) → status ≡ status_at 
 mark_refusal at (rows.Fault kind) status h = becomes status _ h refl
 mark_refusal at (rows.Limit kind) status h = becomes status _ h refl
 
+cause_refusal : (cause : Refused) (status : Status) → cause ≢ causes.NoMemory → status ≡ status_for cause → IsTrue (is_refusal status)
+cause_refusal (causes.TooManyCells task words) status known h = becomes status _ h refl
+cause_refusal (causes.TooDear task cycles) status known h = becomes status _ h refl
+cause_refusal (causes.HyperTooLong task) status known h = becomes status _ h refl
+cause_refusal (causes.TooManyFrames frames) status known h = becomes status _ h refl
+cause_refusal (causes.Overload demand hyper) status known h = becomes status _ h refl
+cause_refusal (causes.Late late) status known h = becomes status _ h refl
+cause_refusal causes.NoMemory status known h = absurd (known refl)
+
 pub refusal : (what : Test) (call : Call) (status : Status) → Refuses what call status → IsTrue (is_refusal status)
-refusal tests.plain_program call status h = becomes status _ h.0 refl
 refusal tests.target call status h = becomes status _ h.1 refl
-refusal tests.demand call status h = becomes status _ h.2 refl
+refusal tests.choice call status h = cause_refusal h.refused.0 status h.refused.1 h.refused.2
 refusal tests.image call status h = image_refusal (call.read 1) status h
-refusal tests.script call status h = script_refusal h.0 (call.read 2) status h.2
+refusal tests.script call status h = script_refusal (port_rows h.0) (call.read 2) status h.2
 refusal tests.program call status (inl h) = lexical_refusal h.0 status h.1
 refusal tests.program call status (inr (tokens, lexed, inl h)) = becomes status _ h.1 refl
 refusal tests.program call status (inr (tokens, lexed, inr h)) = deep_refusal h.0 h.1 status h.2
 refusal tests.faultless call status (tasks, program, (mark, is, first)) = mark_refusal mark.at mark.row status is
+refusal tests.inputs call status (tasks, faultless, refuses) = script_refusal (set_rows (set_of tasks)) (call.read 2) status refuses
 
 no_refusal : (what : Test) (call : Call) (status given : Status) → Refuses what call status → status ≡ given → is_refusal given ≡ false → ⊥
 no_refusal what call status given h e none = let is : is_refusal status ≡ true = refusal what call status h in let same : is_refusal status ≡ is_refusal given = ap is_refusal e in cc
@@ -98,7 +114,7 @@ never_words command end (load word limit ∷ stages) call shelf (inr (bytes, nex
     never_words command end stages (with_read word bytes call) next rest e
 never_words command end (bound kind word most ∷ stages) call shelf (inl stop) e = let o = stop.cause.0 in cc
 never_words command end (bound kind word most ∷ stages) call shelf (inr (few, rest)) e = never_words command end stages call shelf rest e
-never_words command end (test what ∷ stages) call shelf (inl stop) e =
+never_words command end (test what ∷ stages) call shelf (inl (stop, named)) e =
     elim stop.cause [ inl o ↦ cc | inr r ↦ no_refusal what call end.status statuses.Words r e refl ]
 never_words command end (test what ∷ stages) call shelf (inr (passes, rest)) e = never_words command end stages call shelf rest e
 
@@ -146,9 +162,9 @@ agrees command end told decided (bound kind word most ∷ stages) call shelf sam
 agrees command end told decided (bound kind word most ∷ stages) call shelf same (inl stop) (inr d) = absurd (omega (arith, stop.cause.1, d.0))
 agrees command end told decided (bound kind word most ∷ stages) call shelf same (inr (few, rest)) (inl d) = absurd (omega (arith, few, d.1))
 agrees command end told decided (bound kind word most ∷ stages) call shelf same (inr (few, rest)) (inr d) = agrees command end told decided stages call shelf same rest d.1
-agrees command end told decided (test what ∷ stages) call shelf same (inl stop) (inl d) =
+agrees command end told decided (test what ∷ stages) call shelf same (inl (stop, named)) (inl d) =
     elim stop.cause [ inl o ↦ out_of_memory decided end.status o | inr r ↦ inl (one_refusal what call end.status decided r d) ]
-agrees command end told decided (test what ∷ stages) call shelf same (inl stop) (inr d) =
+agrees command end told decided (test what ∷ stages) call shelf same (inl (stop, named)) (inr d) =
     elim stop.cause [ inl o ↦ out_of_memory decided end.status o | inr r ↦ absurd (d.0 end.status r) ]
 agrees command end told decided (test what ∷ stages) call shelf same (inr (passes, rest)) (inl d) = absurd (passes_or_refuses what call decided passes d)
 agrees command end told decided (test what ∷ stages) call shelf same (inr (passes, rest)) (inr d) = agrees command end told decided stages call shelf same rest d.1
@@ -195,7 +211,7 @@ finished command end told (bound kind word most ∷ stages) call shelf same (inl
 finished command end told (bound kind word most ∷ stages) call shelf same (inr (few, rest)) e =
     let f = finished command end told stages call shelf same rest e in
     record { last = f.last; reads = f.reads; pieces = f.pieces; text = f.text; taken = f.taken }
-finished command end told (test what ∷ stages) call shelf same (inl stop) e =
+finished command end told (test what ∷ stages) call shelf same (inl (stop, named)) e =
     elim stop.cause [ inl o ↦ absurd cc | inr r ↦ absurd (no_refusal what call end.status statuses.Ok r e refl) ]
 finished command end told (test what ∷ stages) call shelf same (inr (passes, rest)) e =
     let f = finished command end told stages call shelf same rest e in

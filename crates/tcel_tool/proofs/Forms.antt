@@ -11,19 +11,23 @@ use Rattle.tcel_tool.specs.CommandLine.{AreWords, fit, is_number, word_at}
 use Rattle.tcel_tool.specs.Commands.{HasForm, HaveNoForm, name_of}
 use Rattle.tcel_tool.specs.declared.command.Slot.{Slot}
 use Rattle.tcel_tool.specs.declared.command.Command.{Command}
-use Rattle.tcel_tool.specs.declared.command.Command.TheVariants.{Compile, Run, Format, Check}
+use Rattle.tcel_tool.specs.declared.command.Command.TheVariants.{Compile, Run, Format, Check, Mean, Analyse}
 
 -- no two commands have one name
 abbrev command_named : List ℕ → Command
 command_named word =
     if pointwise nat_eq word (name_of Compile) then Compile
-    else (if pointwise nat_eq word (name_of Run) then Run else (if pointwise nat_eq word (name_of Format) then Format else Check))
+    else (if pointwise nat_eq word (name_of Run) then Run
+    else (if pointwise nat_eq word (name_of Format) then Format
+    else (if pointwise nat_eq word (name_of Check) then Check else (if pointwise nat_eq word (name_of Mean) then Mean else Analyse))))
 
 named : (command : Command) → command_named (name_of command) ≡ command
 named Compile = refl
 named Run = refl
 named Format = refl
 named Check = refl
+named Mean = refl
+named Analyse = refl
 
 one_name : (a b : Command) → name_of a ≡ name_of b → a ≡ b
 one_name a b e = sym (named a) ∙ ap command_named e ∙ named b
@@ -34,23 +38,31 @@ one_form [] a b h k = absurd h
 one_form (first ∷ words) a b h k = one_name a b (sym h.0 ∙ k.0)
 
 -- words that have the form of none of these have the form of none
-pub of_none : (words : List (List ℕ)) → AllByRecursion (λ (command : Command). ¬ HasForm command words) (Compile ∷ Run ∷ Format ∷ Check ∷ []) → HaveNoForm words
+pub of_none : (words : List (List ℕ)) → AllByRecursion (λ (command : Command). ¬ HasForm command words) (Compile ∷ Run ∷ Format ∷ Check ∷ Mean ∷ Analyse ∷ []) → HaveNoForm words
 of_none words none Compile = none.0
 of_none words none Run = none.1.0
 of_none words none Format = none.1.1.0
 of_none words none Check = none.1.1.1.0
+of_none words none Mean = none.1.1.1.1.0
+of_none words none Analyse = none.1.1.1.1.1.0
 
 both : (a b : Bool) → IsTrue (a && b) → IsTrue a × IsTrue b
 both true b h = (refl, h)
 both false b h = absurd cc
 
--- the third word behind `run` is a number
-pub third_is_number : (words : List (List ℕ)) → HasForm Run words → IsTrue (is_number (word_at words 3))
-third_is_number [] h = absurd h
-third_is_number (name ∷ []) h = absurd (let e = h.1 in cc)
-third_is_number (name ∷ a ∷ []) h = absurd (let e = h.1 in cc)
-third_is_number (name ∷ a ∷ b ∷ []) h = absurd (let e = h.1 in cc)
-third_is_number (name ∷ a ∷ b ∷ c ∷ words) h = (both (is_number c) (fit [] words) h.1).0
+-- the third word behind two files is a number
+third_is_number : (name : List ℕ) (words : List (List ℕ)) → AreWords name (Slot.File ∷ Slot.File ∷ Slot.Number ∷ []) words → IsTrue (is_number (word_at words 3))
+third_is_number own [] h = absurd h
+third_is_number own (name ∷ []) h = absurd (let e = h.1 in cc)
+third_is_number own (name ∷ a ∷ []) h = absurd (let e = h.1 in cc)
+third_is_number own (name ∷ a ∷ b ∷ []) h = absurd (let e = h.1 in cc)
+third_is_number own (name ∷ a ∷ b ∷ c ∷ words) h = (both (is_number c) (fit [] words) h.1).0
+
+pub ticks_are_a_number : (words : List (List ℕ)) → HasForm Run words → IsTrue (is_number (word_at words 3))
+ticks_are_a_number words h = third_is_number (name_of Run) words h
+
+pub frames_are_a_number : (words : List (List ℕ)) → HasForm Mean words → IsTrue (is_number (word_at words 3))
+frames_are_a_number words h = third_is_number (name_of Mean) words h
 
 one_way : (b : Bool) → (b ≡ false → ⊥) → b ≡ true
 one_way true h = refl

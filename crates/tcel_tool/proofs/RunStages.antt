@@ -10,7 +10,8 @@ use Rattle.tcel_tool.specs.Answer.{Ended, Goes, Loads, OrMemory, begun, with_rea
 use Rattle.tcel_tool.specs.CommandLine.{number_at}
 use Rattle.tcel_tool.specs.Commands.{stages_of}
 use Rattle.tcel_tool.specs.Lines.{lines}
-use Rattle.tcel_tool.specs.RunCommand.{IsImageIn, IsText, RefusesLines, RefusesScript, trace_lines}
+use Rattle.tcel_tool.specs.RunCommand.{IsImageIn, IsText, RefusesScript, trace_lines}
+use Rattle.tcel_tool.specs.ScriptText.{RefusesLines}
 use Rattle.tcel_tool.specs.Stage.{Call, test}
 use Rattle.tcel_tool.specs.Test as tests
 use Rattle.tcel_tool.specs.declared.command.Command.TheVariants.{Run as run}
@@ -39,7 +40,7 @@ module _ {words : List (List ℕ)} {shelf last : SeenShelf} {image script : List
   behind_image rest = inr (read.few, inr (image, read.next, read.first, inr ((given, read.is), inr (script, last, read.second, rest))))
 
   -- the script is refused
-  pub faulty_lines : (status : Status) → OrMemory (RefusesLines given script) status → OrMemory (RefusesScript image script) status
+  pub faulty_lines : (status : Status) → OrMemory (RefusesLines (port_rows given) script) status → OrMemory (RefusesScript image script) status
   faulty_lines status (inl e) = inl e
   faulty_lines status (inr h) = inr (given, read.is, h)
 

@@ -1,8 +1,5 @@
 -- What passes a test is not refused by it, and a test refuses with one status.
 use Rattle.std.proofs.Common.{◌≡◌, ℕ, ◌<◌, List, [], ◌∷◌, Contains, Some, Ok, Err, refl, sym, ap, ◌∙◌, subst, inl, inr, arith}
-use Rattle.tcel_demand.proofs.Hyperperiods.{only_hyperperiod, own_demand}
-use Rattle.tcel_num.specs.Hyperperiod.{IsHyperperiod, demand}
-use Rattle.tcel_num.specs.Plan.{Plan}
 use Rattle.tcel_num.specs.declared.at.At.{At}
 use Rattle.tcel_grammar.proofs.OneAnswer.{not_accepted, not_shallow, one_depth, one_syntax, syntax_or_depth}
 use Rattle.tcel_grammar.proofs.OneTree.{one_tree as one_parse}
@@ -16,7 +13,11 @@ use Rattle.tcel_token.specs.declared.fail.LexFail.{LexFail}
 use Rattle.tcel_token.specs.declared.fail.LexFail.TheVariants as lex
 use Rattle.tcel_token.specs.declared.token.Tokens.{Tokens}
 use Rattle.tcel_tree.specs.Language as trees
+use Rattle.tcel_check.specs.Checked.{set_of}
 use Rattle.tcel_check.specs.Marks.{IsFirst}
+use Rattle.tcel_core.specs.Language as core
+use Rattle.tcel_driver.proofs.OneAnswer.{made, one_refusal as one_cause}
+use Rattle.tcel_driver.specs.Choice.{IsChosen}
 use Rattle.tcel_check.specs.Rows.{marks}
 use Rattle.tcel_check.specs.declared.mark.Mark.{Mark}
 use Rattle.tcel_target.proofs.Told.{says_one}
@@ -30,33 +31,28 @@ use Rattle.tcel_image.specs.Validity.{IsFirstFlaw}
 use Rattle.tcel_image.specs.declared.fault.ImageFail.{ImageFail}
 use Rattle.tcel_image.specs.declared.flaw.Flaw.{Flaw}
 use Rattle.tcel_image.specs.declared.image.Image.{Image}
-use Rattle.tcel_script.specs.Script.{script_of}
+use Rattle.tcel_check.specs.Checked.{set_of}
+use Rattle.tcel_core.specs.Ports.{port_rows as set_rows}
+use Rattle.tcel_num.specs.declared.port_row.PortRow.{PortRow}
+use Rattle.tcel_script.specs.Script.{script_of, Streams}
 use Rattle.tcel_script.specs.declared.fail.ScriptFail.{ScriptFail}
 use Rattle.tcel_verify.specs.Ports.{port_rows}
 use Rattle.tcel_tool.specs.CheckCommand.{IsFaultless, RefusesFaults, status_at}
 use Rattle.tcel_tool.specs.Commands.{Passes, Refuses}
-use Rattle.tcel_tool.specs.CompileCommand.{Compiles, Demands, HasFault, IsTextOf, Overloads}
-use Rattle.tcel_tool.specs.PlainTree.{IsPlain, task_of}
+use Rattle.tcel_tool.specs.SetChoice.{Choice, IsChoiceFor, RefusesChoice, RefusesSet, status_for}
+use Rattle.tcel_tool.specs.TargetText.{HasFault}
 use Rattle.tcel_tool.specs.ProgramText.{IsDeep, IsGrammatical, IsLexical, IsProgramText, RefusesText}
-use Rattle.tcel_tool.specs.RunCommand.{IsImageIn, RefusesImage, RefusesLines, Spells}
+use Rattle.tcel_tool.specs.RunCommand.{IsImageIn, RefusesImage, Spells}
+use Rattle.tcel_tool.specs.ScriptText.{RefusesLines}
+use Rattle.tcel_tool.specs.MeanCommand.{Means, RefusesInputs}
 use Rattle.tcel_tool.specs.Stage.{Call}
-use Rattle.tcel_tool.specs.StraightPlan.{frame_ticks}
 use Rattle.tcel_tool.specs.Test.{Test}
 use Rattle.tcel_tool.specs.Test as tests
-use Rattle.tcel_tool.specs.declared.plain_tree.PlainTree.{PlainTree}
 use Rattle.tcel_tool.specs.declared.status.ProgramKind.TheVariants.{Unexpected}
 use Rattle.tcel_tool.specs.declared.status.Status.{Status}
 use Rattle.tcel_tool.specs.declared.status.Status.TheVariants as statuses
 use Rattle.tcel_tool.proofs.FirstMarks.{one_first}
 use Rattle.tcel_tool.proofs.FlawOrder.{one_flaw}
-use Rattle.tcel_tool.proofs.OneTask.{only_plan}
-use Rattle.tcel_tool.proofs.StraightPlans.{plan_is}
-use Rattle.tcel_tool.proofs.TextLaws.{texts_tell_programs}
-
--- ---- plain programs
-
-one_tree : (program : List ℕ) (a b : PlainTree) → IsTextOf program a → IsTextOf program b → a ≡ b
-one_tree program a b s t = texts_tell_programs a b s.plain s.writable t.plain t.writable (sym s.text ∙ t.text)
 
 -- ---- targets
 
@@ -84,52 +80,6 @@ one_target_fault bytes a b h k =
       | inr (inl e) ↦ not_memory bytes a h (let m : a ≡ fails.NoMemory = cc in m)
       | inr (inr e) ↦ not_memory bytes b k (let m : b ≡ fails.NoMemory = cc in m)
     ]
-
--- ---- the demand
-
--- the demand of a plain program is that of one frame in its period
-pub record IsFrames (tree : PlainTree) (costs : Costs) (cycles hyper : ℕ) : Type 0 where
-  pub cycles_are : cycles ≡ frame_ticks costs tree
-  pub hyper_is : hyper ≡ tree.period
-
-frames : (tree : PlainTree) (costs : Costs) (cycles hyper : ℕ) → IsPlain tree → Demands tree costs cycles hyper → IsFrames tree costs cycles hyper
-frames tree costs cycles hyper plain d =
-    let only = only_plan (task_of tree) costs d.plans d.whole in
-    let plan = only.plan in
-    let known = plan_is costs tree plain in
-    let positive : 0 < plan.period = omega (arith, only.whole.period, plain.period.0) in
-    let repeats = only_hyperperiod plan hyper positive (subst (λ (ps : List Plan). IsHyperperiod ps hyper) only.alone d.period) in
-    let total = ap (λ (ps : List Plan). demand ps hyper) only.alone ∙ ap (demand (plan ∷ [])) repeats ∙ own_demand plan positive in
-    let firsts : only.whole.first ≡ known.first =
-    omega (arith, only.whole.first_total.greatest known.first known.first_total.there, known.first_total.greatest only.whole.first only.whole.first_total.there) in
-    let rests : only.whole.rest ≡ known.rest =
-    omega (arith, only.whole.rest_total.greatest known.rest known.rest_total.there, known.rest_total.greatest only.whole.rest only.whole.rest_total.there) in
-    record {
-      cycles_are = omega (arith, d.cycles_of, total, firsts, rests, only.whole.total, known.total);
-      hyper_is = omega (arith, repeats, only.whole.period);
-    }
-
-fits_or_overloads : (program target : List ℕ) (tree : PlainTree) (costs : Costs) (cycles hyper : ℕ) → Compiles program target tree costs → Overloads program target cycles hyper → ⊥
-fits_or_overloads program target tree costs cycles hyper c o =
-    let trees_are = one_tree program tree o.tree c.accepts o.accepts in
-    let costs_are = one_costs target costs o.costs c.gives.text o.gives.text in
-    let one = frames tree costs c.cycles c.hyper c.accepts.plain c.demands in
-    let other = frames o.tree o.costs cycles hyper o.accepts.plain o.demands in
-    let ticks : frame_ticks costs tree ≡ frame_ticks o.costs o.tree = ap (λ k. frame_ticks k tree) costs_are ∙ ap (frame_ticks o.costs) trees_are in
-    let periods : tree.period ≡ o.tree.period = ap (λ (t : PlainTree). t.period) trees_are in
-    omega (arith, c.fits, o.above, one.cycles_are, one.hyper_is, other.cycles_are, other.hyper_is, ticks, periods)
-
-one_overload : (program target : List ℕ) (a b c d : ℕ) → Overloads program target a b → Overloads program target c d → statuses.Overload a b ≡ statuses.Overload c d
-one_overload program target a b c d o p =
-    let trees_are = one_tree program o.tree p.tree o.accepts p.accepts in
-    let costs_are = one_costs target o.costs p.costs o.gives.text p.gives.text in
-    let one = frames o.tree o.costs a b o.accepts.plain o.demands in
-    let other = frames p.tree p.costs c d p.accepts.plain p.demands in
-    let ticks : frame_ticks o.costs o.tree ≡ frame_ticks p.costs p.tree = ap (λ k. frame_ticks k o.tree) costs_are ∙ ap (frame_ticks p.costs) trees_are in
-    let periods : o.tree.period ≡ p.tree.period = ap (λ (t : PlainTree). t.period) trees_are in
-    let cycles : a ≡ c = omega (arith, one.cycles_are, other.cycles_are, ticks) in
-    let hypers : b ≡ d = omega (arith, one.hyper_is, other.hyper_is, periods) in
-    ap (λ n. statuses.Overload n b) cycles ∙ ap (statuses.Overload c) hypers
 
 -- ---- images
 
@@ -167,14 +117,26 @@ one_why bytes a b (flawed f given e spells first) (flawed g other k spells' firs
 
 -- ---- scripts
 
-pub record WhyLines (given : Image) (lines : List ℕ) (status : Status) : Type 0 where
+pub record WhyLines (ports : List PortRow) (lines : List ℕ) (status : Status) : Type 0 where
   pub fail : ScriptFail
   pub is : status ≡ statuses.Script fail
-  pub read : script_of (port_rows given) lines ≡ Err fail
+  pub read : script_of ports lines ≡ Err fail
 
-why_lines : (given : Image) (lines : List ℕ) (status : Status) → RefusesLines given lines status → WhyLines given lines status
-why_lines given lines (statuses.Script fail) h = record { fail = fail; is = refl; read = h.1 }
-why_lines given lines _ h = absurd h
+why_lines : (ports : List PortRow) (lines : List ℕ) (status : Status) → RefusesLines ports lines status → WhyLines ports lines status
+why_lines ports lines (statuses.Script fail) h = record { fail = fail; is = refl; read = h.1 }
+why_lines ports lines _ h = absurd h
+
+read_or_refused : (ports : List PortRow) (lines : List ℕ) (streams : Streams) (status : Status) → script_of ports lines ≡ Ok streams → RefusesLines ports lines status → ⊥
+read_or_refused ports lines streams status read h = let why = why_lines ports lines status h in let none = why.read in cc
+
+one_line : (ports : List PortRow) (lines : List ℕ) (a b : Status) → RefusesLines ports lines a → RefusesLines ports lines b → a ≡ b
+one_line ports lines a b h k =
+    let one = why_lines ports lines a h in
+    let other = why_lines ports lines b k in
+    let first = one.read in
+    let second = other.read in
+    let fail : one.fail ≡ other.fail = cc in
+    one.is ∙ ap statuses.Script fail ∙ sym other.is
 
 -- ---- texts of programs
 
@@ -233,34 +195,68 @@ one_program_fault text a b (tasks, program, (mark, e, first)) (others, program',
     let one = one_first (marks others) mark mark' (subst (λ (ts : List trees.Task). IsFirst (marks ts) (Some mark)) same first) first' in
     e ∙ ap (λ (m : Mark). status_at m.at m.row) one ∙ sym e'
 
+-- ---- choices
+
+-- a refusal of one program is one of the other's set
+same_set : (program target : List ℕ) (tasks others : List trees.Task) (costs other : Costs) (status : Status) → tasks ≡ others → costs ≡ other
+    → RefusesSet (set_of tasks) costs status → RefusesSet (set_of others) other status
+same_set program target tasks others costs other status same equal h =
+    subst (λ (k : Costs). RefusesSet (set_of others) k status) equal (subst (λ (ts : List trees.Task). RefusesSet (set_of ts) costs status) same h)
+
+chosen_or_refused : (program target : List ℕ) (c : Choice) (status : Status) → IsChoiceFor program target c → RefusesChoice program target status → ⊥
+chosen_or_refused program target c status is not_made =
+    let refused = same_set program target not_made.tasks is.tasks not_made.costs c.costs status (one_program program not_made.tasks is.tasks not_made.faultless.program is.faultless.program)
+    (one_costs target not_made.costs c.costs not_made.gives.text is.gives.text) not_made.refused in
+    let chosen = subst (λ (set : List core.Task). IsChosen set c.costs c.sliced c.plans c.parts) is.is is.best.chosen in
+    refused.1 (made (set_of is.tasks) c.costs c.sliced c.plans c.parts refused.0 chosen refused.3)
+
+one_set_refusal : (set : List core.Task) (costs : Costs) (a b : Status) → RefusesSet set costs a → RefusesSet set costs b → a ≡ b
+one_set_refusal set costs a b (cause, known, is, refuses) (other, told, equal, why) =
+    elim (one_cause set costs cause other refuses why) [
+      | inl same ↦ is ∙ ap status_for same ∙ sym equal
+      | inr (inl none) ↦ absurd (known none)
+      | inr (inr none) ↦ absurd (told none)
+    ]
+
+one_choice_refusal : (program target : List ℕ) (a b : Status) → RefusesChoice program target a → RefusesChoice program target b → a ≡ b
+one_choice_refusal program target a b one other =
+    let refused = same_set program target one.tasks other.tasks one.costs other.costs a
+    (one_program program one.tasks other.tasks one.faultless.program other.faultless.program) (one_costs target one.costs other.costs one.gives.text other.gives.text) one.refused in
+    one_set_refusal (set_of other.tasks) other.costs a b refused other.refused
+
+-- ---- scripts for checked programs
+
+inputs_or_refused : (text lines : List ℕ) (tasks : List trees.Task) (streams : Streams) (status : Status) → Means text lines tasks streams → RefusesInputs text lines status → ⊥
+inputs_or_refused text lines tasks streams status means (others, faultless, refuses) =
+    let same = one_program text others tasks faultless.program means.faultless.program in
+    read_or_refused (set_rows (set_of tasks)) lines streams status means.streams_in
+    (subst (λ (ts : List trees.Task). RefusesLines (set_rows (set_of ts)) lines status) same refuses)
+
+one_input_fault : (text lines : List ℕ) (a b : Status) → RefusesInputs text lines a → RefusesInputs text lines b → a ≡ b
+one_input_fault text lines a b (tasks, faultless, refuses) (others, faultless', refuses') =
+    let same = one_program text tasks others faultless.program faultless'.program in
+    one_line (set_rows (set_of others)) lines a b (subst (λ (ts : List trees.Task). RefusesLines (set_rows (set_of ts)) lines a) same refuses) refuses'
+
 -- ---- the tests
 
 pub passes_or_refuses : (what : Test) (call : Call) (status : Status) → Passes what call → Refuses what call status → ⊥
-passes_or_refuses tests.plain_program call status p h = h.1 p.0 p.1.plain p.1.writable p.1.text
 passes_or_refuses tests.target call status p h = costs_or_fault (call.read 2) p.0 h.0 p.1.text h.2
-passes_or_refuses tests.demand call status p h = fits_or_overloads (call.read 1) (call.read 2) p.0 p.1 h.0 h.1 p.2 h.3
+passes_or_refuses tests.choice call status p h = chosen_or_refused (call.read 1) (call.read 2) p.0 status p.1 h
 passes_or_refuses tests.image call status p h = image_or_why (call.read 1) p.0 status p.1 (why_image (call.read 1) status h)
 passes_or_refuses tests.script call status p h =
     let same = one_image (call.read 1) h.0 p.0 h.1.spells p.2.image_in.spells in
-    let why = why_lines p.0 (call.read 2) status (subst (λ (i : Image). RefusesLines i (call.read 2) status) same h.2) in
-    let found = p.2.streams_in in
-    let none = why.read in
-    cc
+    read_or_refused (port_rows p.0) (call.read 2) p.1 status p.2.streams_in (subst (λ (i : Image). RefusesLines (port_rows i) (call.read 2) status) same h.2)
 passes_or_refuses tests.program call status p h = text_or_fault (call.read 1) p.0 status p.1 h
 passes_or_refuses tests.faultless call status p h = faultless_or_fault (call.read 1) p.0 status p.1 h
+passes_or_refuses tests.inputs call status p h = inputs_or_refused (call.read 1) (call.read 2) p.0 p.1 status p.2 h
 
 pub one_refusal : (what : Test) (call : Call) (a b : Status) → Refuses what call a → Refuses what call b → a ≡ b
-one_refusal tests.plain_program call a b h k = h.0 ∙ sym k.0
 one_refusal tests.target call a b h k = h.1 ∙ ap statuses.Target (one_target_fault (call.read 2) h.0 k.0 h.2 k.2) ∙ sym k.1
-one_refusal tests.demand call a b h k = h.2 ∙ one_overload (call.read 1) (call.read 2) h.0 h.1 k.0 k.1 h.3 k.3 ∙ sym k.2
+one_refusal tests.choice call a b h k = one_choice_refusal (call.read 1) (call.read 2) a b h k
 one_refusal tests.image call a b h k = one_why (call.read 1) a b (why_image (call.read 1) a h) (why_image (call.read 1) b k)
 one_refusal tests.script call a b h k =
     let same = one_image (call.read 1) h.0 k.0 h.1.spells k.1.spells in
-    let one = why_lines k.0 (call.read 2) a (subst (λ (i : Image). RefusesLines i (call.read 2) a) same h.2) in
-    let other = why_lines k.0 (call.read 2) b k.2 in
-    let first = one.read in
-    let second = other.read in
-    let fail : one.fail ≡ other.fail = cc in
-    one.is ∙ ap statuses.Script fail ∙ sym other.is
+    one_line (port_rows k.0) (call.read 2) a b (subst (λ (i : Image). RefusesLines (port_rows i) (call.read 2) a) same h.2) k.2
 one_refusal tests.program call a b h k = one_text_fault (call.read 1) a b h k
 one_refusal tests.faultless call a b h k = one_program_fault (call.read 1) a b h k
+one_refusal tests.inputs call a b h k = one_input_fault (call.read 1) (call.read 2) a b h k

@@ -6,7 +6,7 @@ use Rattle.tcel_io.specs.Shelf.{SeenShelf}
 use Rattle.tcel_io.specs.declared.loaded.Outcome.{Outcome}
 use Rattle.tcel_io.specs.declared.loaded.Outcome.TheVariants as outcomes
 use Rattle.tcel_tool.specs.CommandLine.{number_at, word_at}
-use Rattle.tcel_tool.specs.Commands.{IsText, Passes, Refuses, stages_of}
+use Rattle.tcel_tool.specs.Commands.{IsText, Names, Passes, Refuses, stages_of}
 use Rattle.tcel_tool.specs.Stage.{Call, Stage, load, bound, test}
 use Rattle.tcel_tool.specs.declared.command.Command.{Command}
 use Rattle.tcel_tool.specs.declared.status.CountKind.{CountKind}
@@ -22,12 +22,13 @@ begun words = record { words = words; read = λ word. [] }
 abbrev pub with_read : ℕ → List ℕ → Call → Call
 with_read word bytes call = record { words = call.words; read = λ other. if other == word then bytes else call.read other }
 
--- how a call ended: the shelf then, the output before the call and then, and the status
+-- how a call ended: the shelf then, the output before the call and then, the status, and the name of the task that it tells, where it tells one
 pub record Ended : Type 0 where
   pub shelf : SeenShelf
   pub before : Seen
   pub after : Seen
   pub status : Status
+  pub task : Option (List ℕ)
 
 -- ---- the stages
 
@@ -85,12 +86,12 @@ Goes command end (load word limit ∷ stages) call shelf =
 Goes command end (bound kind word most ∷ stages) call shelf =
     Stops (IsAbove call.words kind word most) shelf end ⊎ ((number_at call.words word ≤ most) × Goes command end stages call shelf)
 Goes command end (test what ∷ stages) call shelf =
-    Stops (OrMemory (Refuses what call)) shelf end ⊎ (Passes what call × Goes command end stages call shelf)
+    (Stops (OrMemory (Refuses what call)) shelf end × Names what call end.status end.task) ⊎ (Passes what call × Goes command end stages call shelf)
 
--- a call of this command with these words did so: to the shelf, to its output, and with this status
-abbrev pub Does : Command → List (List ℕ) → SeenShelf → SeenShelf → Seen → Seen → Status → Type 0
-Does command words shelf shelf' before after status =
-    Goes command (record { shelf = shelf'; before = before; after = after; status = status }) (stages_of command) (begun words) shelf
+-- a call of this command with these words did so: to the shelf, to its output, with this status, and telling the task of this name
+abbrev pub Does : Command → List (List ℕ) → SeenShelf → SeenShelf → Seen → Seen → Status → Option (List ℕ) → Type 0
+Does command words shelf shelf' before after status task =
+    Goes command (record { shelf = shelf'; before = before; after = after; status = status; task = task }) (stages_of command) (begun words) shelf
 
 -- the status of a body that ended so
 abbrev pub status_of : {T : Type 0} → Result T Status → Status

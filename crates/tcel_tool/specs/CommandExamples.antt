@@ -3,20 +3,28 @@ use Rattle.std.specs.Prelude.{ℕ, List, [], ◌∷◌, Option, None, codes}
 use Rattle.tcel_check.specs.Examples.{at, tasks_to}
 use Rattle.tcel_check.specs.declared.fail.CheckKind.TheVariants.{SamePriority}
 use Rattle.tcel_check.specs.declared.fail.LimitKind.TheVariants.{Tasks}
+use Rattle.tcel_num.specs.Plan.{within}
 use Rattle.tcel_tree.specs.Language.{Task}
-use Rattle.tcel_tool.specs.declared.status.CountKind.TheVariants.{Ticks}
+use Rattle.tcel_tool.specs.declared.status.CountKind.TheVariants.{Ticks, MeanFrames}
 use Rattle.tcel_tool.specs.declared.status.LimitFault.TheVariants as limits
 use Rattle.tcel_tool.specs.declared.status.ProgramKind.TheVariants.{Check, Unexpected}
 use Rattle.tcel_tool.specs.declared.status.Status.{Status}
-use Rattle.tcel_tool.specs.declared.status.Status.TheVariants.{Limit, Program}
+use Rattle.tcel_tool.specs.declared.status.Status.TheVariants.{Late, Limit, Program}
 
 -- `run a b`, and the ticks
 abbrev pub run_line : List ℕ → List (List ℕ)
 run_line ticks = codes "run" ∷ codes "a" ∷ codes "b" ∷ ticks ∷ []
 
--- `compile a b`, `format a`, `check a`
+-- `mean a b`, and the frames
+abbrev pub mean_line : List ℕ → List (List ℕ)
+mean_line frames = codes "mean" ∷ codes "a" ∷ codes "b" ∷ frames ∷ []
+
+-- `compile a b`, `analyse a b`, `format a`, `check a`
 abbrev pub compile_line : List (List ℕ)
 compile_line = codes "compile" ∷ codes "a" ∷ codes "b" ∷ []
+
+abbrev pub analyse_line : List (List ℕ)
+analyse_line = codes "analyse" ∷ codes "a" ∷ codes "b" ∷ []
 
 abbrev pub format_line : List (List ℕ)
 format_line = codes "format" ∷ codes "a" ∷ []
@@ -31,6 +39,10 @@ nothing_told name = None
 -- one tick more than there may be
 abbrev pub too_many : Status
 too_many = Limit (limits.Count Ticks 10000001)
+
+-- one frame more than there may be
+abbrev pub too_many_frames : Status
+too_many_frames = Limit (limits.Count MeanFrames 10001)
 
 -- a token that begins no program goes on
 abbrev pub unexpected : Status
@@ -53,3 +65,15 @@ seventeen = tasks_to 17
 
 abbrev pub many_tasks : Status
 many_tasks = Limit (limits.Placed Tasks (at 116))
+
+-- a bound of a block that is passed in a frame of the second task
+abbrev pub late_point : Status
+late_point = Late (record { task = 1; frame = 1; point = 2; name = within 3; response = 70; bound = 69 })
+
+-- the words of a task's parts
+abbrev pub many_cells : Status
+many_cells = Limit (limits.Cells 0 72001)
+
+-- the second period
+abbrev pub long_hyper : Status
+long_hyper = Limit (limits.Hyper 1)

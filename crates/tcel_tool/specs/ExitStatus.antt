@@ -5,6 +5,7 @@ use Rattle.tcel_tool.specs.declared.status.Status.TheVariants as statuses
 
 abbrev pub exit_status : Status → ℕ
 exit_status statuses.Ok = 0
+exit_status (statuses.Late late) = 1
 exit_status (statuses.Overload cycles hyper) = 1
 exit_status (statuses.Program kind at) = 2
 exit_status (statuses.Limit fault) = 3
@@ -16,4 +17,3 @@ exit_status (statuses.Target fail) = 8
 exit_status (statuses.Image fail) = 9
 exit_status (statuses.Flaw flaw) = 9
 exit_status (statuses.Script fail) = 10
-exit_status (statuses.Beyond word) = 20

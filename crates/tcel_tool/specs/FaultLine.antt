@@ -2,6 +2,8 @@
 use Rattle.std.specs.Prelude.{ℕ, List, [], ◌∷◌, codes}
 use Rattle.std.specs.Fmt.{decimal}
 use Rattle.tcel_num.specs.declared.at.At.{At}
+use Rattle.tcel_num.specs.Lateness.{Lateness}
+use Rattle.tcel_num.specs.Plan.{PointName, frame, before, within}
 use Rattle.tcel_check.specs.declared.fail.CheckKind.{CheckKind}
 use Rattle.tcel_check.specs.declared.fail.CheckKind.TheVariants as checks
 use Rattle.tcel_check.specs.declared.fail.LimitKind.{LimitKind}
@@ -20,7 +22,8 @@ use Rattle.tcel_tool.specs.declared.status.Status.{Status}
 use Rattle.tcel_tool.specs.declared.status.Status.TheVariants as statuses
 use Rattle.tcel_tool.specs.declared.status.LimitFault.{LimitFault}
 use Rattle.tcel_tool.specs.declared.status.LimitFault.TheVariants as limits
-use Rattle.tcel_tool.specs.declared.status.CountKind.TheVariants.{Ticks}
+use Rattle.tcel_tool.specs.declared.status.CountKind.{CountKind}
+use Rattle.tcel_tool.specs.declared.status.CountKind.TheVariants.{Ticks, MeanFrames}
 use Rattle.tcel_tool.specs.declared.status.ProgramKind.{ProgramKind}
 use Rattle.tcel_tool.specs.declared.status.ProgramKind.TheVariants as kinds
 use Rattle.tcel_tool.specs.CommandLine.{word_at}
@@ -33,12 +36,21 @@ limit_text placed.Words = codes "limit: words above 4096 at "
 limit_text placed.Nodes = codes "limit: nodes above 4000 at "
 limit_text placed.Windows = codes "limit: windows above 31 at "
 
-abbrev pub limit_pieces : List (List ℕ) → LimitFault → List (List ℕ)
-limit_pieces words (limits.Bytes word limit) = codes "limit: bytes of " ∷ word_at words word ∷ codes " above " ∷ decimal limit ∷ codes "\n" ∷ []
-limit_pieces words (limits.Count Ticks value) = codes "limit: ticks " ∷ decimal value ∷ codes " above 10000000\n" ∷ []
-limit_pieces words (limits.Nesting at) = codes "limit: nesting above 32 at " ∷ decimal at.line ∷ codes ":" ∷ decimal at.column ∷ codes "\n" ∷ []
-limit_pieces words (limits.Operators at) = codes "limit: operators above 64 at " ∷ decimal at.line ∷ codes ":" ∷ decimal at.column ∷ codes "\n" ∷ []
-limit_pieces words (limits.Placed kind at) = limit_text kind ∷ decimal at.line ∷ codes ":" ∷ decimal at.column ∷ codes "\n" ∷ []
+-- a number on the command line that is above the greatest one allowed
+abbrev pub count_pieces : CountKind → ℕ → List (List ℕ)
+count_pieces Ticks value = codes "limit: ticks " ∷ decimal value ∷ codes " above 10000000\n" ∷ []
+count_pieces MeanFrames value = codes "limit: mean frames " ∷ decimal value ∷ codes " above 10000\n" ∷ []
+
+abbrev pub limit_pieces : List (List ℕ) → LimitFault → List ℕ → List (List ℕ)
+limit_pieces words (limits.Bytes word limit) task = codes "limit: bytes of " ∷ word_at words word ∷ codes " above " ∷ decimal limit ∷ codes "\n" ∷ []
+limit_pieces words (limits.Count kind value) task = count_pieces kind value
+limit_pieces words (limits.Nesting at) task = codes "limit: nesting above 32 at " ∷ decimal at.line ∷ codes ":" ∷ decimal at.column ∷ codes "\n" ∷ []
+limit_pieces words (limits.Operators at) task = codes "limit: operators above 64 at " ∷ decimal at.line ∷ codes ":" ∷ decimal at.column ∷ codes "\n" ∷ []
+limit_pieces words (limits.Placed kind at) task = limit_text kind ∷ decimal at.line ∷ codes ":" ∷ decimal at.column ∷ codes "\n" ∷ []
+limit_pieces words (limits.Cells number n) task = codes "limit: cells " ∷ decimal n ∷ codes " above 65536 in task " ∷ task ∷ codes "\n" ∷ []
+limit_pieces words (limits.Cycles number cycles) task = codes "limit: cycles " ∷ decimal cycles ∷ codes " above 1000000000 in task " ∷ task ∷ codes "\n" ∷ []
+limit_pieces words (limits.Hyper number) task = codes "limit: hyperperiod above 1000000000000 at task " ∷ task ∷ codes "\n" ∷ []
+limit_pieces words (limits.Frames frames) task = codes "limit: frames " ∷ decimal frames ∷ codes " above 1000000\n" ∷ []
 
 -- the fault of a program that follows the grammar
 abbrev pub check_text : CheckKind → List ℕ
@@ -100,18 +112,36 @@ script_pieces (scripts.PortTwice line) = codes "script " ∷ decimal line ∷ co
 script_pieces (scripts.Number line) = codes "script " ∷ decimal line ∷ codes ": number\n" ∷ []
 script_pieces scripts.NoMemory = codes "no memory\n" ∷ []
 
-abbrev pub fault_pieces : List (List ℕ) → Status → List (List ℕ)
-fault_pieces words statuses.Ok = []
-fault_pieces words (statuses.Overload demand hyper) =
+-- a point of a plan, by its word and its number
+abbrev pub point_word : PointName → List ℕ
+point_word frame = codes "frame"
+point_word (before n) = codes "before "
+point_word (within n) = codes "within "
+
+abbrev pub point_number : PointName → List ℕ
+point_number frame = []
+point_number (before n) = decimal n
+point_number (within n) = decimal n
+
+-- a late point of a task
+abbrev pub late_pieces : Lateness → List ℕ → List (List ℕ)
+late_pieces late task =
+    codes "rejected: late task " ∷ task ∷ codes " frame " ∷ decimal late.frame ∷ codes " point " ∷ point_word late.name ∷ point_number late.name
+    ∷ codes " response " ∷ decimal late.response ∷ codes " bound " ∷ decimal late.bound ∷ codes "\n" ∷ []
+
+-- the pieces of the line for a status, with the name of the task that it tells, where it tells one
+abbrev pub fault_pieces : List (List ℕ) → Status → List ℕ → List (List ℕ)
+fault_pieces words statuses.Ok task = []
+fault_pieces words (statuses.Late late) task = late_pieces late task
+fault_pieces words (statuses.Overload demand hyper) task =
     codes "rejected: overload demand " ∷ decimal demand ∷ codes " hyperperiod " ∷ decimal hyper ∷ codes "\n" ∷ []
-fault_pieces words (statuses.Program kind at) = program_pieces kind at
-fault_pieces words (statuses.Limit fault) = limit_pieces words fault
-fault_pieces words statuses.Words = codes "words: no command has this form\n" ∷ []
-fault_pieces words (statuses.ReadFault word) = codes "read fault: " ∷ word_at words word ∷ codes "\n" ∷ []
-fault_pieces words statuses.WriteFault = codes "write fault\n" ∷ []
-fault_pieces words statuses.NoMemory = codes "no memory\n" ∷ []
-fault_pieces words (statuses.Target fail) = target_pieces fail
-fault_pieces words (statuses.Image fail) = image_pieces fail
-fault_pieces words (statuses.Flaw flaw) = flaw_pieces flaw
-fault_pieces words (statuses.Script fail) = script_pieces fail
-fault_pieces words (statuses.Beyond word) = codes "beyond: " ∷ word_at words word ∷ codes "\n" ∷ []
+fault_pieces words (statuses.Program kind at) task = program_pieces kind at
+fault_pieces words (statuses.Limit fault) task = limit_pieces words fault task
+fault_pieces words statuses.Words task = codes "words: no command has this form\n" ∷ []
+fault_pieces words (statuses.ReadFault word) task = codes "read fault: " ∷ word_at words word ∷ codes "\n" ∷ []
+fault_pieces words statuses.WriteFault task = codes "write fault\n" ∷ []
+fault_pieces words statuses.NoMemory task = codes "no memory\n" ∷ []
+fault_pieces words (statuses.Target fail) task = target_pieces fail
+fault_pieces words (statuses.Image fail) task = image_pieces fail
+fault_pieces words (statuses.Flaw flaw) task = flaw_pieces flaw
+fault_pieces words (statuses.Script fail) task = script_pieces fail

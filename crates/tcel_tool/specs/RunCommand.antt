@@ -8,9 +8,9 @@ use Rattle.tcel_image.specs.Validity.{IsValid, IsFirstFlaw}
 use Rattle.tcel_image.specs.declared.fault.ImageFail.TheVariants as image_fails
 use Rattle.tcel_image.specs.declared.image.Image.{Image}
 use Rattle.tcel_script.specs.Script.{script_of}
-use Rattle.tcel_script.specs.declared.fail.ScriptFail.TheVariants as script_fails
 use Rattle.tcel_verify.specs.Ports.{port_rows}
 use Rattle.tcel_tool.specs.CommandLine.{number_at}
+use Rattle.tcel_tool.specs.ScriptText.{RefusesLines, script_limit}
 use Rattle.tcel_tool.specs.Stage.{Call, Stage, load, bound, test}
 use Rattle.tcel_tool.specs.Test as tests
 use Rattle.tcel_tool.specs.declared.command.Slot.{Slot}
@@ -26,12 +26,12 @@ name = codes "run"
 abbrev pub slots : List Slot
 slots = File ∷ File ∷ Number ∷ []
 
--- the most bytes of an image, and of a script
+-- the most bytes of an image
 abbrev pub run_limit : ℕ
 run_limit = 16777216
 
 abbrev pub stages : List Stage
-stages = bound Ticks 3 10000000 ∷ load 1 run_limit ∷ test tests.image ∷ load 2 run_limit ∷ test tests.script ∷ []
+stages = bound Ticks 3 10000000 ∷ load 1 run_limit ∷ test tests.image ∷ load 2 script_limit ∷ test tests.script ∷ []
 
 -- ---- the image
 
@@ -58,12 +58,8 @@ pub record Runs (bytes lines : List ℕ) (given : Image) (streams : Streams) : T
   pub streams_in : script_of (port_rows given) lines ≡ Ok streams
 
 -- the first faulty line of a script for this image
-abbrev pub RefusesLines : Image → List ℕ → Status → Type 0
-RefusesLines given lines (statuses.Script fail) = (fail ≢ script_fails.NoMemory) × (script_of (port_rows given) lines ≡ Err fail)
-RefusesLines given lines _ = ⊥
-
 abbrev pub RefusesScript : List ℕ → List ℕ → Status → Type 0
-RefusesScript bytes lines status = (given : Image) × IsImageIn bytes given × RefusesLines given lines status
+RefusesScript bytes lines status = (given : Image) × IsImageIn bytes given × RefusesLines (port_rows given) lines status
 
 -- ---- the text
 

@@ -11,6 +11,8 @@ pub enum Command {
     Run,
     Format,
     Check,
+    Mean,
+    Analyse,
 }
 
 /// What a word behind a command's name is: the name of a file, or 1 to 18 decimal digits.
@@ -20,11 +22,13 @@ pub enum Slot {
     Number,
 }
 
-const COMMANDS: [Command; 4] = [
+const COMMANDS: [Command; 6] = [
     Command::Compile,
     Command::Run,
     Command::Format,
     Command::Check,
+    Command::Mean,
+    Command::Analyse,
 ];
 
 const MOST_DIGITS: usize = 18;
@@ -38,6 +42,8 @@ impl Command {
             Command::Run => "run",
             Command::Format => "format",
             Command::Check => "check",
+            Command::Mean => "mean",
+            Command::Analyse => "analyse",
         }
     }
 
@@ -45,8 +51,8 @@ impl Command {
         ensures { result.now ≡ slots_of self }
     {
         match self {
-            Command::Compile => &[Slot::File, Slot::File],
-            Command::Run => &[Slot::File, Slot::File, Slot::Number],
+            Command::Compile | Command::Analyse => &[Slot::File, Slot::File],
+            Command::Run | Command::Mean => &[Slot::File, Slot::File, Slot::Number],
             Command::Format | Command::Check => &[Slot::File],
         }
     }

@@ -1,42 +1,17 @@
-ghost use Rattle.std.specs.Prelude.{◌≡◌, [], ◌∷◌, codes};
+ghost use Rattle.std.specs.Prelude.{◌≡◌, [], ◌∷◌, codes, false, true};
 ghost use Rattle.tcel_tool.specs.CheckCommand.{RefusesTasks};
-ghost use Rattle.tcel_target.specs.Costs.{unit_costs};
-ghost use Rattle.tcel_cost.specs.Examples.{many_costs};
-ghost use Rattle.tcel_cost.specs.WholePlan.{AreWholePlans};
-ghost use Rattle.tcel_image.specs.Examples.{echo};
-ghost use Rattle.tcel_code.specs.Layout.{image_of};
 ghost use Rattle.std.specs.List.{concat};
 ghost use Rattle.tcel_tool.specs.Answer.{IsDecided};
-ghost use Rattle.tcel_tool.specs.CanonicalText.{text_of};
-ghost use Rattle.tcel_tool.specs.CommandExamples.{check_line, compile_line, format_line, many_tasks, nothing_told};
-ghost use Rattle.tcel_tool.specs.CommandExamples.{run_line, same_priority, seventeen, sixteen, too_deep, too_many, unexpected};
+ghost use Rattle.tcel_tool.specs.Report.{is_sliced};
+ghost use Rattle.tcel_tool.specs.ReportExamples.{last_sliced, plan_text, wanted_text};
+ghost use Rattle.tcel_tool.specs.CommandExamples.{analyse_line, check_line, compile_line, format_line, late_point, long_hyper};
+ghost use Rattle.tcel_tool.specs.CommandExamples.{many_cells, many_tasks, mean_line, nothing_told};
+ghost use Rattle.tcel_tool.specs.CommandExamples.{run_line, same_priority, seventeen, sixteen, too_deep, too_many, too_many_frames, unexpected};
+ghost use Rattle.tcel_tool.specs.MeanExamples.{alarm_pieces, alarm_text, both_pieces, both_text};
 ghost use Rattle.tcel_tool.specs.Commands.{HasForm, HaveNoForm};
 ghost use Rattle.tcel_tool.specs.FaultLine.{fault_pieces};
-ghost use Rattle.tcel_tool.specs.declared.command.Command.TheVariants.{Check, Compile, Format, Run};
+ghost use Rattle.tcel_tool.specs.declared.command.Command.TheVariants.{Analyse, Check, Compile, Format, Mean, Run};
 ghost use Rattle.tcel_tool.specs.declared.status.Status.{Status};
-ghost use Rattle.tcel_tool.specs.Examples.{dispatched_plan, echo_text, echo_tree};
-ghost use Rattle.tcel_tool.specs.PlainTree.{IsPlain, IsWritable, set_of};
-
-/// The image of a program (docs/machine.md).
-pub fn layout_examples()
-    ensures echo { image_of (set_of echo_tree) unit_costs ≡ echo }
-{}
-
-/// A plain program (docs/commands.md, "Plain programs").
-pub fn plain_examples()
-    ensures plain { IsPlain echo_tree }
-    ensures writable { IsWritable echo_tree }
-{}
-
-/// The canonical text of a program (docs/language.md).
-pub fn text_examples()
-    ensures echo { text_of echo_tree ≡ echo_text }
-{}
-
-/// The plan of a plain program, on a processor where each cost is another (docs/commands.md, "Plain programs").
-pub fn plan_example()
-    ensures plan { AreWholePlans (set_of echo_tree) many_costs (dispatched_plan ∷ []) }
-{}
 
 /// Words that are a command's and words that are none, a status that the words alone decide, and fault lines (docs/commands.md).
 pub fn command_examples()
@@ -44,6 +19,8 @@ pub fn command_examples()
     ensures format { HasForm Format format_line }
     ensures check { HasForm Check check_line }
     ensures run { HasForm Run (run_line (codes "0010")) }
+    ensures mean { HasForm Mean (mean_line (codes "2")) }
+    ensures analyse { HasForm Analyse analyse_line }
     ensures other_command { HasForm Compile format_line → ⊥ }
     ensures eighteen_digits { HasForm Run (run_line (codes "999999999999999999")) }
     ensures nineteen_digits { HaveNoForm (run_line (codes "1000000000000000000")) }
@@ -55,14 +32,34 @@ pub fn command_examples()
     ensures no_words { HaveNoForm [] }
     ensures most_ticks { IsDecided Run nothing_told (run_line (codes "10000000")) too_many → ⊥ }
     ensures too_many_ticks { IsDecided Run nothing_told (run_line (codes "10000001")) too_many }
-    ensures line { concat (fault_pieces format_line unexpected) ≡ codes "program 1:38: unexpected token\n" }
-    ensures deep { concat (fault_pieces format_line too_deep) ≡ codes "limit: operators above 64 at 12:304\n" }
-    ensures fault { concat (fault_pieces check_line same_priority) ≡ codes "program 2:17: same priority\n" }
-    ensures limit { concat (fault_pieces check_line many_tasks) ≡ codes "limit: tasks above 16 at 1:116\n" }
+    ensures line { concat (fault_pieces format_line unexpected []) ≡ codes "program 1:38: unexpected token\n" }
+    ensures deep { concat (fault_pieces format_line too_deep []) ≡ codes "limit: operators above 64 at 12:304\n" }
+    ensures fault { concat (fault_pieces check_line same_priority []) ≡ codes "program 2:17: same priority\n" }
+    ensures late { concat (fault_pieces compile_line late_point (codes "lo")) ≡ codes "rejected: late task lo frame 1 point within 3 response 70 bound 69\n" }
+    ensures cells { concat (fault_pieces compile_line many_cells (codes "t")) ≡ codes "limit: cells 72001 above 65536 in task t\n" }
+    ensures long { concat (fault_pieces compile_line long_hyper (codes "b")) ≡ codes "limit: hyperperiod above 1000000000000 at task b\n" }
+    ensures limit { concat (fault_pieces check_line many_tasks []) ≡ codes "limit: tasks above 16 at 1:116\n" }
+    ensures most_frames { IsDecided Mean nothing_told (mean_line (codes "10000")) too_many_frames → ⊥ }
+    ensures too_many_frames { IsDecided Mean nothing_told (mean_line (codes "10001")) too_many_frames }
+    ensures frames { concat (fault_pieces (mean_line (codes "10001")) too_many_frames []) ≡ codes "limit: mean frames 10001 above 10000\n" }
 {}
 
 /// A program that `check` refuses, and one in which it finds nothing (docs/commands.md).
 pub fn check_examples()
     ensures many { RefusesTasks seventeen many_tasks }
     ensures none { (status : Status) → RefusesTasks sixteen status → ⊥ }
+{}
+
+/// What `mean` writes for sets of one task and of two (docs/formats.md).
+pub fn mean_examples()
+    ensures alarm { alarm_pieces 2 ≡ alarm_text ∷ [] }
+    ensures no_frames { alarm_pieces 0 ≡ [] }
+    ensures both { both_pieces ≡ both_text ∷ [] }
+{}
+
+/// Lines of a report, and which tasks are sliced where one is (docs/formats.md).
+pub fn report_examples()
+    ensures lines { plan_text ≡ wanted_text }
+    ensures whole { is_sliced last_sliced 0 ≡ false }
+    ensures sliced { is_sliced last_sliced 1 ≡ true }
 {}

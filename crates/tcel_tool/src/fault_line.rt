@@ -1,25 +1,29 @@
 ghost use Rattle.std.specs.Prelude.{◌≡◌, [], ◌∷◌, codes, map, string_bytes};
 ghost use Rattle.std.specs.Fmt.{decimal};
 ghost use Rattle.tcel_io.specs.InTurn.{ArePut};
-ghost use Rattle.tcel_tool.specs.FaultLine.{check_text, fault_pieces, flaw_pieces, flaw_text, image_pieces, limit_pieces, limit_text};
+ghost use Rattle.tcel_tool.specs.FaultLine.{check_text, count_pieces, fault_pieces, flaw_pieces, flaw_text, image_pieces};
+ghost use Rattle.tcel_tool.specs.FaultLine.{late_pieces, limit_pieces, limit_text, point_number, point_word};
 ghost use Rattle.tcel_tool.specs.FaultLine.{program_pieces, program_text, script_pieces, target_pieces};
 
 use crate::stages::word_at;
 use crate::status::{CountKind, LimitFault, ProgramKind, Status};
 use itoa::Buffer;
 use tcel_check::{CheckKind, LimitKind};
+use tcel_demand::{Late, PointName};
 use tcel_image::{Flaw, FlawKind, ImageFail};
 use tcel_io::Sink;
 use tcel_num::At;
 use tcel_script::ScriptFail;
 use tcel_target::TargetFail;
 
-/// Puts the fault line of the status (docs/commands.md), in pieces: the texts between words and numbers, and these. After a fault nothing more is put.
-pub(crate) fn put_fault_line<K: Sink>(words: &[String], status: &Status, err: &mut K)
-    ensures { ArePut (fault_pieces (map string_bytes words.now) status.now) (K.seen err.old) (K.seen err.new) }
+/// Puts the fault line of the status (docs/commands.md), in pieces: the texts between words, names and numbers, and these. `task` is the name of the
+/// task that the status tells, where it tells one. After a fault nothing more is put.
+pub(crate) fn put_fault_line<K: Sink>(words: &[String], status: &Status, task: &[u8], err: &mut K)
+    ensures { ArePut (fault_pieces (map string_bytes words.now) status.now task.now) (K.seen err.old) (K.seen err.new) }
 {
     match status {
         Status::Ok => put_all(&[], err),
+        Status::Late(late) => put_late(*late, task, err),
         Status::Overload { demand, hyper } => put_all(
             &[
                 b"rejected: overload demand ",
@@ -31,7 +35,7 @@ pub(crate) fn put_fault_line<K: Sink>(words: &[String], status: &Status, err: &m
             err,
         ),
         Status::Program { kind, at } => put_program(*kind, *at, err),
-        Status::Limit(fault) => put_limit(words, *fault, err),
+        Status::Limit(fault) => put_limit(words, *fault, task, err),
         Status::Words => put_all(&[b"words: no command has this form\n"], err),
         Status::ReadFault { word } => put_all(
             &[b"read fault: ", word_at(words, *word).as_bytes(), b"\n"],
@@ -43,15 +47,65 @@ pub(crate) fn put_fault_line<K: Sink>(words: &[String], status: &Status, err: &m
         Status::Image(fail) => put_image_fail(*fail, err),
         Status::Flaw(flaw) => put_flaw(*flaw, err),
         Status::Script(fail) => put_script_fail(*fail, err),
-        Status::Beyond { word } => put_all(
-            &[b"beyond: ", word_at(words, *word).as_bytes(), b"\n"],
+    }
+}
+
+/// Puts a late point of a task.
+fn put_late<K: Sink>(late: Late, task: &[u8], err: &mut K)
+    ensures { ArePut (late_pieces late task.now) (K.seen err.old) (K.seen err.new) }
+{
+    match late.name {
+        PointName::Frame => put_late_point(late, task, b"frame", b"", err),
+        PointName::Before(number) => put_late_point(
+            late,
+            task,
+            b"before ",
+            Buffer::new().format(number).as_bytes(),
+            err,
+        ),
+        PointName::Within(number) => put_late_point(
+            late,
+            task,
+            b"within ",
+            Buffer::new().format(number).as_bytes(),
             err,
         ),
     }
 }
 
-fn put_limit<K: Sink>(words: &[String], fault: LimitFault, err: &mut K)
-    ensures { ArePut (limit_pieces (map string_bytes words.now) fault) (K.seen err.old) (K.seen err.new) }
+/// Puts a late point of a task, of which the word and the number are these.
+fn put_late_point<'a, K: Sink>(
+    late: Late,
+    task: &'a [u8],
+    word: &'a [u8],
+    number: &'a [u8],
+    err: &mut K,
+)
+    requires word { word.now ≡ point_word late.name }
+    requires number { number.now ≡ point_number late.name }
+    ensures { ArePut (late_pieces late task.now) (K.seen err.old) (K.seen err.new) }
+{
+    put_all(
+        &[
+            b"rejected: late task ",
+            task,
+            b" frame ",
+            Buffer::new().format(late.frame).as_bytes(),
+            b" point ",
+            word,
+            number,
+            b" response ",
+            Buffer::new().format(late.response).as_bytes(),
+            b" bound ",
+            Buffer::new().format(late.bound).as_bytes(),
+            b"\n",
+        ],
+        err,
+    )
+}
+
+fn put_limit<K: Sink>(words: &[String], fault: LimitFault, task: &[u8], err: &mut K)
+    ensures { ArePut (limit_pieces (map string_bytes words.now) fault task.now) (K.seen err.old) (K.seen err.new) }
 {
     match fault {
         LimitFault::Bytes { word, limit } => put_all(
@@ -64,13 +118,44 @@ fn put_limit<K: Sink>(words: &[String], fault: LimitFault, err: &mut K)
             ],
             err,
         ),
-        LimitFault::Count {
-            kind: CountKind::Ticks,
-            value,
-        } => put_number(b"limit: ticks ", value, b" above 10000000\n", err),
+        LimitFault::Count { kind, value } => put_count(kind, value, err),
         LimitFault::Nesting { at } => put_place(b"limit: nesting above 32 at ", at, err),
         LimitFault::Operators { at } => put_place(b"limit: operators above 64 at ", at, err),
         LimitFault::Placed { kind, at } => put_place(limit_text(kind), at, err),
+        LimitFault::Cells { task: _, words } => put_task(
+            b"limit: cells ",
+            words,
+            b" above 65536 in task ",
+            task,
+            err,
+        ),
+        LimitFault::Cycles { task: _, cycles } => put_task(
+            b"limit: cycles ",
+            cycles,
+            b" above 1000000000 in task ",
+            task,
+            err,
+        ),
+        LimitFault::Hyper { task: _ } => put_all(
+            &[
+                b"limit: hyperperiod above 1000000000000 at task ",
+                task,
+                b"\n",
+            ],
+            err,
+        ),
+        LimitFault::Frames { frames } => {
+            put_number(b"limit: frames ", frames, b" above 1000000\n", err)
+        }
+    }
+}
+
+fn put_count<K: Sink>(kind: CountKind, value: u64, err: &mut K)
+    ensures { ArePut (count_pieces kind value) (K.seen err.old) (K.seen err.new) }
+{
+    match kind {
+        CountKind::Ticks => put_number(b"limit: ticks ", value, b" above 10000000\n", err),
+        CountKind::MeanFrames => put_number(b"limit: mean frames ", value, b" above 10000\n", err),
     }
 }
 
@@ -84,6 +169,28 @@ fn limit_text(kind: LimitKind) -> &'static [u8]
         LimitKind::Nodes => b"limit: nodes above 4000 at ",
         LimitKind::Windows => b"limit: windows above 31 at ",
     }
+}
+
+/// Puts a number that a task has too high.
+fn put_task<'a, K: Sink>(
+    before: &'a [u8],
+    number: u64,
+    between: &'a [u8],
+    task: &'a [u8],
+    err: &mut K,
+)
+    ensures { ArePut (before.now ∷ decimal number ∷ between.now ∷ task.now ∷ codes "\n" ∷ []) (K.seen err.old) (K.seen err.new) }
+{
+    put_all(
+        &[
+            before,
+            Buffer::new().format(number).as_bytes(),
+            between,
+            task,
+            b"\n",
+        ],
+        err,
+    )
 }
 
 /// Puts a place behind a text.

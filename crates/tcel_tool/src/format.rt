@@ -1,4 +1,4 @@
-ghost use Rattle.std.specs.Prelude.{◌≡◌, ◌⊎◌, IsTrue, map, string_bytes};
+ghost use Rattle.std.specs.Prelude.{◌≡◌, ◌⊎◌, IsTrue, map, string_bytes, None};
 ghost use Rattle.tcel_tool.specs.Answer.{Does, status_of, writes};
 
 use crate::command::Command;
@@ -17,7 +17,7 @@ pub(crate) fn format<H: Shelf, K: Sink>(
     out: &mut K,
 ) -> Result<(), Status>
     ensures goes { Does Command.Format (map string_bytes words.now) (H.seen shelf.old) (H.seen shelf.new)
-        (K.seen out.old) (K.seen out.new) (status_of result) }
+        (K.seen out.old) (K.seen out.new) (status_of result) None }
     ensures untouched { IsTrue (writes (status_of result)) ⊎ (out.new ≡ out.old) }
 {
     let text = load(alloc, words, 1, PROGRAM_LIMIT, shelf)?;

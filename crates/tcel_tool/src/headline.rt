@@ -1,8 +1,7 @@
-ghost use Rattle.tcel_tool.specs.CanonicalText.{TextsTellPrograms};
 ghost use Rattle.tcel_tool.specs.Headline.{CompiledProgramsMeetTheirSource};
 ghost use Rattle.tcel_tool.specs.WrittenImages.{RunsOfWrittenImagesMeet, WrittenImagesAreTaken};
 
-/// Every run of a plain program's image does what its source says, in order and in time (docs/architecture.md, "How the proof goes").
+/// Every run of the image of a choice does what the program's source says, in order and in time (docs/architecture.md, "How the proof goes").
 pub fn compiled_programs_meet_their_source()
     ensures headline { CompiledProgramsMeetTheirSource }
 {}
@@ -11,9 +10,4 @@ pub fn compiled_programs_meet_their_source()
 pub fn written_images_run_as_their_source()
     ensures headline { RunsOfWrittenImagesMeet }
     ensures taken { WrittenImagesAreTaken }
-{}
-
-/// A plain program is told by its canonical text.
-pub fn text_laws()
-    ensures told { TextsTellPrograms }
 {}

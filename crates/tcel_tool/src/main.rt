@@ -1,4 +1,4 @@
-//! The program `tcel`: its commands, and the rules that the compiler's stages meet until each has a crate of its own.
+//! The program `tcel`: its commands.
 #![tactic(auto)]
 
 use status::Status;
@@ -10,34 +10,40 @@ use tcel_io::{HostShelf, HostSink};
 use tcel_num::NoMemory;
 use tool::tcel;
 
-mod canonical;
+mod analyse;
+#[cfg(test)]
+mod analyse_tests;
 mod check;
 #[cfg(test)]
 mod check_tests;
+mod choice;
 mod command;
 mod compile;
-mod cursor;
+#[cfg(test)]
+mod compile_tests;
 mod examples;
 mod fault_line;
 mod format;
 #[cfg(test)]
 mod format_tests;
-mod generate;
 mod headline;
-mod names;
-mod plain_check;
-mod plain_tree;
-mod plan;
+mod mean;
+#[cfg(test)]
+mod mean_tests;
+mod mean_text;
 mod program;
 #[cfg(test)]
 mod program_tests;
-mod read;
+mod report;
 mod run;
+mod script;
 mod stages;
+mod state_text;
 mod status;
 #[cfg(test)]
 mod tests;
 mod tool;
+mod writing;
 
 fn main(rt: HostRuntime) -> ExitCode {
     let alloc = rt.alloc();
@@ -52,7 +58,7 @@ fn main(rt: HostRuntime) -> ExitCode {
             &mut err,
         ),
         Err(status) => {
-            fault_line::put_fault_line(&[], &status, &mut err);
+            fault_line::put_fault_line(&[], &status, b"", &mut err);
             status
         }
     };

@@ -1,5 +1,11 @@
-ghost use Rattle.std.specs.Prelude.{◌≤◌, IfErr, IfOk, length};
+ghost use Rattle.std.specs.Prelude.{◌≡◌, ◌≤◌, [], IfErr, IfOk, OnOk, length};
+ghost use Rattle.tcel_check.specs.Answers.{IsCheckable};
+ghost use Rattle.tcel_check.specs.Checked.{set_of};
+ghost use Rattle.tcel_check.specs.Rows.{marks};
+ghost use Rattle.tcel_core.specs.Plain.{plain_set};
+ghost use Rattle.tcel_core.specs.Sound.{IsSoundSet};
 ghost use Rattle.tcel_tool.specs.Answer.{OrMemory};
+ghost use Rattle.tcel_tool.specs.CheckCommand.{RefusesTasks};
 ghost use Rattle.tcel_tool.specs.ProgramText.{IsGrammatical, IsProgramText, RefusesText};
 ghost use Rattle.tcel_tree.specs.Plain.{plain_program};
 ghost use Rattle.tcel_grammar.specs.Faults.{IsAccepted};
@@ -7,6 +13,8 @@ ghost use Rattle.tcel_token.specs.Terminal.{terminals};
 
 use crate::status::{LimitFault, ProgramKind, Status};
 use std::alloc::Global;
+use tcel_check::{CheckFail, check};
+use tcel_core::Set;
 use tcel_parse::{Deep, ParseFail, parse};
 use tcel_token::{LexFail, Tokens, tokens};
 use tcel_tree::Program;
@@ -62,5 +70,23 @@ fn parsed(alloc: Global, tokens: &Tokens) -> Result<Program, Status>
             },
         ) => Err(Status::Limit(LimitFault::Operators { at })),
         Err(ParseFail::NoMemory) => Err(Status::NoMemory),
+    }
+}
+
+/// The core tasks of the program; its first fault or limit is refused.
+pub(crate) fn set_of(alloc: Global, program: &Program) -> Result<Set, Status>
+    ensures free { OnOk result (marks (plain_program program.now) ≡ []) }
+    ensures set { IfOk result (λ set. plain_set set ≡ set_of (plain_program program.now)) }
+    ensures sound { IsCheckable (plain_program program.now) → IfOk result (λ set. IsSoundSet (plain_set set)) }
+    ensures refusal { IfErr result (OrMemory (RefusesTasks (plain_program program.now))) }
+{
+    match check(alloc, program) {
+        Ok(set) => Ok(set),
+        Err(CheckFail::Fault { kind, at }) => Err(Status::Program {
+            kind: ProgramKind::Check(kind),
+            at,
+        }),
+        Err(CheckFail::Limit { kind, at }) => Err(Status::Limit(LimitFault::Placed { kind, at })),
+        Err(CheckFail::NoMemory) => Err(Status::NoMemory),
     }
 }

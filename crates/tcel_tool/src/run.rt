@@ -1,26 +1,28 @@
-ghost use Rattle.std.specs.Prelude.{◌≡◌, ◌+◌, ◌<◌, ◌≤◌, ◌^◌, ◌⊎◌, IfErr, IfOk, IsTrue, OnErr, OnOk, Ok, length, map, string_bytes};
+ghost use Rattle.std.specs.Prelude.{◌≡◌, ◌+◌, ◌<◌, ◌≤◌, ◌^◌, ◌⊎◌, IfErr, IfOk, IsTrue, OnErr, OnOk, Ok, length, map, string_bytes, None};
 ghost use Rattle.tcel_io.specs.InTurn.{AreCutOff, AreTaken};
 ghost use Rattle.tcel_machine.specs.Run.{after_tick};
 ghost use Rattle.tcel_script.specs.Script.{script_of};
 ghost use Rattle.tcel_tool.specs.Answer.{Does, OrMemory, status_of, writes};
 ghost use Rattle.tcel_tool.specs.Commands.{HasForm};
 ghost use Rattle.tcel_tool.specs.Lines.{lines, tick_lines};
-ghost use Rattle.tcel_tool.specs.RunCommand.{IsImageIn, RefusesImage, RefusesLines};
+ghost use Rattle.tcel_tool.specs.RunCommand.{IsImageIn, RefusesImage};
+ghost use Rattle.tcel_tool.specs.ScriptText.{RefusesLines};
 ghost use Rattle.tcel_trace.specs.Room.{HasRoom};
 ghost use Rattle.tcel_verify.specs.Ports.{port_rows};
 
 use crate::command::Command;
+use crate::script::{SCRIPT_LIMIT, script_for};
 use crate::stages::{load, number_up_to};
 use crate::status::{CountKind, Status};
 use std::alloc::Global;
 use tcel_image::{ImageFail, decode};
 use tcel_io::{Shelf, Sink, SinkFault};
 use tcel_machine::Machine;
-use tcel_script::{Script, ScriptFail, read_script};
+use tcel_script::Script;
 use tcel_trace::{Buffer, put_entry};
 use tcel_verify::{Ready, verify};
 
-/// The most bytes of an image, and of a script.
+/// The most bytes of an image.
 const RUN_LIMIT: usize = 16_777_216;
 
 const MOST_TICKS: u64 = 10_000_000;
@@ -34,13 +36,13 @@ pub(crate) fn run<H: Shelf, K: Sink>(
 ) -> Result<(), Status>
     requires { HasForm Command.Run (map string_bytes words.now) }
     ensures goes { Does Command.Run (map string_bytes words.now) (H.seen shelf.old) (H.seen shelf.new)
-        (K.seen out.old) (K.seen out.new) (status_of result) }
+        (K.seen out.old) (K.seen out.new) (status_of result) None }
     ensures untouched { IsTrue (writes (status_of result)) ⊎ (out.new ≡ out.old) }
 {
     let ticks = number_up_to(words, 3, CountKind::Ticks, MOST_TICKS)?;
     let bytes = load(alloc, words, 1, RUN_LIMIT, shelf)?;
     let ready = ready_of(alloc, &bytes)?;
-    let text = load(alloc, words, 2, RUN_LIMIT, shelf)?;
+    let text = load(alloc, words, 2, SCRIPT_LIMIT, shelf)?;
     let script = script_of(alloc, &text, &ready)?;
     let mut buffer = Buffer::for_image(alloc, &ready)?;
     let mut machine = Machine::load(alloc, ready, script)?;
@@ -68,14 +70,10 @@ fn ready_of(alloc: Global, bytes: &[u8]) -> Result<Ready, Status>
 fn script_of(alloc: Global, bytes: &[u8], ready: &Ready) -> Result<Script, Status>
     requires short { length bytes.now ≤ 16777216 }
     ensures streams { IfOk result (λ streams. script_of (port_rows ready.now) bytes.now ≡ Ok streams) }
-    ensures refusal { IfErr result (OrMemory (RefusesLines ready.now bytes.now)) }
+    ensures refusal { IfErr result (OrMemory (RefusesLines (port_rows ready.now) bytes.now)) }
 {
     let ports = ready.ports(alloc)?;
-    match read_script(alloc, bytes, &ports) {
-        Ok(script) => Ok(script),
-        Err(ScriptFail::NoMemory) => Err(Status::NoMemory),
-        Err(fail) => Err(Status::Script(fail)),
-    }
+    script_for(alloc, bytes, &ports)
 }
 
 /// Puts the lines of the next so many ticks, up to the first fault.

@@ -3,6 +3,7 @@ ghost use Rattle.tcel_tool.specs.ExitStatus.{exit_status};
 ghost use Rattle.tcel_tool.specs.declared.status.Status.TheVariants.{NoMemory as memory, WriteFault as write_fault};
 
 use tcel_check::{CheckKind, LimitKind};
+use tcel_demand::Late;
 use tcel_image::{Flaw, ImageFail};
 use tcel_io::SinkFault;
 use tcel_num::{At, NoMemory};
@@ -13,7 +14,9 @@ use tcel_target::TargetFail;
 #[derive(Debug, Drop, PartialEq, Eq)]
 pub enum Status {
     Ok,
-    /// The frames that are released in `hyper` ticks ask for `demand` cycles, which is more.
+    /// No number of sliced tasks fits; where all are sliced, this point is the first late one.
+    Late(Late),
+    /// No number of sliced tasks fits; where all are sliced, the frames of `hyper` ticks ask for `demand` cycles, which is more.
     Overload { demand: u64, hyper: u64 },
     /// The program's text goes wrong at this place.
     Program { kind: ProgramKind, at: At },
@@ -33,8 +36,6 @@ pub enum Status {
     Flaw(Flaw),
     /// The script has a faulty line. Want of memory is `NoMemory`.
     Script(ScriptFail),
-    /// The file of this word is a program of a form that isn't built yet.
-    Beyond { word: usize },
 }
 
 /// How a program's text goes wrong (docs/language.md).
@@ -65,12 +66,21 @@ pub enum LimitFault {
     Operators { at: At },
     /// Here is the first one too many of what a program has.
     Placed { kind: LimitKind, at: At },
+    /// The parts of this task need so many words.
+    Cells { task: usize, words: u64 },
+    /// A frame of this task takes so many cycles, whole or sliced.
+    Cycles { task: usize, cycles: u64 },
+    /// With this task the least common multiple of the periods is too long.
+    Hyper { task: usize },
+    /// So many frames are released in the hyperperiod.
+    Frames { frames: u64 },
 }
 
 /// What a number on the command line counts.
 #[derive(Clone, Copy, Debug, PartialEq, Eq)]
 pub enum CountKind {
     Ticks,
+    MeanFrames,
 }
 
 impl Status {
@@ -80,7 +90,7 @@ impl Status {
     {
         match self {
             Status::Ok => 0,
-            Status::Overload { .. } => 1,
+            Status::Late(_) | Status::Overload { .. } => 1,
             Status::Program { .. } => 2,
             Status::Limit(_) => 3,
             Status::Words => 4,
@@ -90,7 +100,6 @@ impl Status {
             Status::Target(_) => 8,
             Status::Image(_) | Status::Flaw(_) => 9,
             Status::Script(_) => 10,
-            Status::Beyond { .. } => 20,
         }
     }
 }

@@ -9,7 +9,7 @@ use tcel_target::TargetFail;
 pub(crate) const ECHO: &[u8] =
     b"task t priority 1 {\n  input s;\n  output o;\n  state int n;\n  local int x;\n  every 10 {\n    receive x from s;\n    send x to o;\n    n := n + 1;\n  }\n}\n";
 
-const UNIT: &[u8] =
+pub(crate) const UNIT: &[u8] =
     b"const = 1\nload = 1\nstore = 1\nload_at = 1\nstore_at = 1\narith = 1\nmultiply = 1\ndivide = 1\njump = 1\nbranch = 1\nloop = 1\nreceive = 1\nsend = 1\nmark = 1\nend = 1\n";
 
 /// The image of `ECHO`, as docs/formats.md lists it.
@@ -66,7 +66,7 @@ pub(crate) const NONE: Fails = Fails {
     load: None,
 };
 
-const COMPILE: [&str; 3] = ["compile", "p", "t"];
+pub(crate) const COMPILE: [&str; 3] = ["compile", "p", "t"];
 
 fn sink(alloc: Global, room: usize, fail: Option<PutFail>) -> Result<MemSink, Fail> {
     let mut fails = Vec::new(alloc);
@@ -183,19 +183,6 @@ fn bounds_the_cycles_by_the_period(rt: HostRuntime) -> Result<(), Fail> {
     )
 }
 
-#[test]
-fn refuses_a_program_with_other_bytes(rt: HostRuntime) -> Result<(), Fail> {
-    let mut longer = Vec::from_slice(rt.alloc(), ECHO)?;
-    longer.push(b'\n').map_err(|_| "memory")?;
-    compare(
-        &rt,
-        (&longer, UNIT),
-        NONE,
-        (Status::Beyond { word: 1 }, 20),
-        (b"", b"beyond: p\n"),
-    )
-}
-
 /// The lines of `UNIT`.
 const LINES_OF_UNIT: [&str; 15] = [
     "const = 1\n",
@@ -263,7 +250,10 @@ fn refuses_targets(rt: HostRuntime) -> Result<(), Fail> {
 #[test]
 fn refuses_a_target_behind_its_program(rt: HostRuntime) -> Result<(), Fail> {
     let left = run(rt.alloc(), &COMPILE, (b"", b"const ="), NONE)?;
-    assert_eq!(rt; left.status, Status::Beyond { word: 1 });
+    assert_eq!(rt;
+        left.err.bytes(),
+        b"program 1:1: unexpected token\n".as_slice()
+    );
     // A byte that is no UTF-8 is in no document.
     compare(
         &rt,
@@ -444,160 +434,6 @@ fn refuses_words(rt: HostRuntime) -> Result<(), Fail> {
     assert_eq!(rt; left.status, Status::Words);
     assert_eq!(rt; left.err.bytes(), b"wor".as_slice());
     Ok(())
-}
-
-#[test]
-fn refuses_each_prefix(rt: HostRuntime) -> Result<(), Fail> {
-    for end in 0..ECHO.len() {
-        let left = run(rt.alloc(), &COMPILE, (&ECHO[..end], UNIT), NONE)?;
-        assert_eq!(rt; left.status, Status::Beyond { word: 1 }, "{end}");
-    }
-    Ok(())
-}
-
-/// A program of this head, declarations and statements.
-fn program(alloc: Global, (head, decls, body): (&str, &str, &str)) -> Result<String, AllocError> {
-    format!(in alloc; "task {head} {{\n{decls}  every 10000000 {{\n{body}  }}\n}}\n")
-}
-
-/// Declarations of one variable and port of each kind.
-const DECLS: &str = "  input a;\n  output b;\n  state int c;\n  local int d;\n";
-
-/// Declarations of so many states.
-fn states(alloc: Global, count: u32) -> Result<String, AllocError> {
-    let mut decls = String::new(alloc);
-    for number in 0..count {
-        decls.push_str(format!(in alloc; "  state int v{number};\n")?.as_str())?;
-    }
-    Ok(decls)
-}
-
-/// So many statements.
-fn statements(alloc: Global, count: u32) -> Result<String, AllocError> {
-    let mut body = String::new(alloc);
-    for number in 0..count {
-        body.push_str(format!(in alloc; "    d := {number};\n")?.as_str())?;
-    }
-    Ok(body)
-}
-
-/// Compiles a text, with room for its image.
-fn compile_text(alloc: Global, text: &str) -> Result<Left, Fail> {
-    let fails = Fails {
-        room: 100_000,
-        ..NONE
-    };
-    run(alloc, &COMPILE, (text.as_bytes(), UNIT), fails)
-}
-
-fn accept(rt: &(impl Abort + AllocGlobal), parts: (&str, &str, &str)) -> Result<(), Fail> {
-    let text = program(rt.alloc(), parts)?;
-    let left = compile_text(rt.alloc(), text.as_str())?;
-    assert_eq!(rt; left.status, Status::Ok, "{text}");
-    Ok(())
-}
-
-fn refuse(rt: &(impl Abort + AllocGlobal), text: &str) -> Result<(), Fail> {
-    let left = compile_text(rt.alloc(), text)?;
-    assert_eq!(rt; left.status, Status::Beyond { word: 1 }, "{text}");
-    assert_eq!(rt; left.out.bytes(), b"".as_slice());
-    assert_eq!(rt; left.err.bytes(), b"beyond: p\n".as_slice());
-    Ok(())
-}
-
-#[test]
-fn accepts_plain_heads_and_declarations(rt: HostRuntime) -> Result<(), Fail> {
-    let rows = [
-        ("t priority 1", ""),
-        ("t priority 1000", ""),
-        ("abcdefghijklmnopqrstuvwxyz_01234 priority 7", ""),
-        ("t priority 1", "  input a;\n"),
-        ("t priority 1", "  output a;\n"),
-        ("t priority 1", "  state int a;\n"),
-        ("t priority 1", "  local int a;\n"),
-        (
-            "t priority 1",
-            "  local int a;\n  state int t;\n  input x;\n  input y;\n",
-        ),
-    ];
-    for (head, decls) in rows {
-        accept(&rt, (head, decls, ""))?;
-    }
-    Ok(())
-}
-
-#[test]
-fn accepts_plain_statements(rt: HostRuntime) -> Result<(), Fail> {
-    let rows = [
-        "    c := 0;\n",
-        "    d := 9223372036854775807;\n",
-        "    c := d;\n",
-        "    c := c + d;\n",
-        "    c := 1 - d;\n",
-        "    d := 2 + 3;\n",
-        "    receive c from a;\n    receive d from a;\n",
-        "    send 5 to b;\n    send d to b;\n",
-        "    send c + 1 to b;\n",
-        "    send 9223372036854775807 - d to b;\n",
-    ];
-    for body in rows {
-        accept(&rt, ("t priority 1", DECLS, body))?;
-    }
-    Ok(())
-}
-
-#[test]
-fn accepts_the_most_names_and_statements(rt: HostRuntime) -> Result<(), Fail> {
-    let decls = states(rt.alloc(), 256)?;
-    accept(&rt, ("t priority 1", decls.as_str(), "    v255 := v0;\n"))?;
-    let body = statements(rt.alloc(), 1000)?;
-    accept(&rt, ("t priority 1", DECLS, body.as_str()))
-}
-
-#[test]
-fn refuses_programs_that_are_not_plain(rt: HostRuntime) -> Result<(), Fail> {
-    let rows = [
-        ("t priority 0", DECLS, ""),
-        ("t priority 1001", DECLS, ""),
-        ("t priority 1", "  input a;\n  local int a;\n", ""),
-        ("t priority 1", DECLS, "    z := 0;\n"),
-        ("t priority 1", DECLS, "    d := z;\n"),
-        ("t priority 1", DECLS, "    send 5 to z;\n"),
-        ("t priority 1", DECLS, "    send 5 to a;\n"),
-        ("t priority 1", DECLS, "    receive d from b;\n"),
-        ("t priority 1", DECLS, "    d := 01;\n"),
-        ("t priority 1", DECLS, "    d := 9223372036854775808;\n"),
-        ("t priority 1", DECLS, "    d :=  1;\n"),
-        ("t priority 1", DECLS, "    d := d * 2;\n"),
-    ];
-    for parts in rows {
-        refuse(&rt, program(rt.alloc(), parts)?.as_str())?;
-    }
-    Ok(())
-}
-
-#[test]
-fn refuses_a_period_out_of_range(rt: HostRuntime) -> Result<(), Fail> {
-    for period in ["0", "10000001"] {
-        refuse(&rt, echo_every(rt.alloc(), period)?.as_str())?;
-    }
-    Ok(())
-}
-
-#[test]
-fn refuses_more_names_statements_or_tasks(rt: HostRuntime) -> Result<(), Fail> {
-    let alloc = rt.alloc();
-    let decls = states(alloc, 257)?;
-    let names = ("t priority 1", decls.as_str(), "    v255 := v0;\n");
-    refuse(&rt, program(alloc, names)?.as_str())?;
-    let body = statements(alloc, 1001)?;
-    refuse(
-        &rt,
-        program(alloc, ("t priority 1", DECLS, body.as_str()))?.as_str(),
-    )?;
-    let mut tasks = echo_every(alloc, "10")?;
-    tasks.push_str(program(alloc, ("u priority 2", "", ""))?.as_str())?;
-    refuse(&rt, tasks.as_str())
 }
 
 const SCRIPT: &[u8] = b"t s 5 6\n";

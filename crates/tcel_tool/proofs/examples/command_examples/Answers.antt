@@ -1,4 +1,4 @@
-use Rattle.tcel_tool.proofs.CommandExamples.{deep_line, fault_line, limit_line, unexpected_line}
+use Rattle.tcel_tool.proofs.CommandExamples.{cells_line, deep_line, fault_line, frames_line, late_line, limit_line, long_line, unexpected_line}
 use Rattle.tcel_tool.proofs.examples.command_examples.Goals as goal
 
 pub returns-clause-line : goal.returns-clause-line
@@ -12,3 +12,15 @@ returns-clause-fault c = fault_line
 
 pub returns-clause-limit : goal.returns-clause-limit
 returns-clause-limit c = limit_line
+
+pub returns-clause-late : goal.returns-clause-late
+returns-clause-late c = late_line
+
+pub returns-clause-cells : goal.returns-clause-cells
+returns-clause-cells c = cells_line
+
+pub returns-clause-long : goal.returns-clause-long
+returns-clause-long c = long_line
+
+pub returns-clause-frames : goal.returns-clause-frames
+returns-clause-frames c = frames_line

@@ -16,6 +16,3 @@ returns-in-Program g c = rw c.in-Program.is c.put_program.ensures
 
 pub returns-in-ReadFault : goal.returns-in-ReadFault
 returns-in-ReadFault g c = rw (c.in-ReadFault.is, ← c.word_at.ensures, ← c.as_bytes-in-ReadFault.ensures.value) c.put_all-in-ReadFault.ensures
-
-pub returns-in-Beyond : goal.returns-in-Beyond
-returns-in-Beyond g c = rw (c.in-Beyond.is, ← c.word_at-in-Beyond.ensures, ← c.as_bytes-in-Beyond.ensures.value) c.put_all-in-Beyond.ensures

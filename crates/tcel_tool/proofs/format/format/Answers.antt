@@ -11,7 +11,7 @@ returns-in_err-program-clause-goes g c =
     let exit = c.from_residual-in_err-program in
     let given = c.in_err-program.field-0.0 in
     let cause = subst (λ t. OrMemory (RefusesText t) given) c.deref.ensures.value c.in_err-program.ensures.refusal in
-    inr (c.in_ok-text.text.items, g.H.Shelf.seen c.load.new.shelf, c.in_ok-text.ensures.loaded, inl (stops exit.result given exit.ensures.1 cause))
+    inr (c.in_ok-text.text.items, g.H.Shelf.seen c.load.new.shelf, c.in_ok-text.ensures.loaded, inl (stops exit.result given exit.ensures.1 cause, tt))
 
 pub returns-in_err-put-clause-goes : goal.returns-in_err-put-clause-goes
 returns-in_err-put-clause-goes g c =

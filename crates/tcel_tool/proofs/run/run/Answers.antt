@@ -1,7 +1,8 @@
 use Rattle.std.proofs.Common.{inl, inr, subst}
 use Rattle.tcel_tool.specs.Answer.{OrMemory}
 use Rattle.tcel_tool.specs.Lines.{lines}
-use Rattle.tcel_tool.specs.RunCommand.{RefusesLines}
+use Rattle.tcel_tool.specs.ScriptText.{RefusesLines}
+use Rattle.tcel_verify.specs.Ports.{port_rows}
 use Rattle.tcel_tool.specs.declared.status.Status.TheVariants as statuses
 use Rattle.tcel_tool.proofs.Exits.{at_end, at_write_fault, cut_off, ended, stops, taken}
 use Rattle.tcel_tool.proofs.RunStages.{behind_image, behind_script, faulty_lines, lines_are, read_image}
@@ -14,8 +15,8 @@ returns-in_err-script-clause-goes g c =
     let exit = c.from_residual-in_err-script in
     let end = ended (g.H.Shelf.seen c.load-2.new.shelf) out out exit.result in
     let status = c.in_err-script.field-0.0 in
-    let cause = subst (λ t. OrMemory (RefusesLines c.in_ok-ready.ready t) status) c.deref-2.ensures.value c.in_err-script.ensures.refusal in
-    behind_image end read (inl (stops exit.result status exit.ensures.1 (faulty_lines end read status cause)))
+    let cause = subst (λ t. OrMemory (RefusesLines (port_rows c.in_ok-ready.ready) t) status) c.deref-2.ensures.value c.in_err-script.ensures.refusal in
+    behind_image end read (inl (stops exit.result status exit.ensures.1 (faulty_lines end read status cause), tt))
 
 pub returns-in_err-put_lines-clause-goes : goal.returns-in_err-put_lines-clause-goes
 returns-in_err-put_lines-clause-goes g c =

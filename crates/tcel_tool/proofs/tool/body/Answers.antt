@@ -4,10 +4,16 @@ pub returns-in-Compile-clause-goes : goal.returns-in-Compile-clause-goes
 returns-in-Compile-clause-goes g c = rw c.in-Compile.is c.compile.ensures.goes
 
 pub returns-in-Run-clause-goes : goal.returns-in-Run-clause-goes
-returns-in-Run-clause-goes g c = rw c.in-Run.is c.run.ensures.goes
+returns-in-Run-clause-goes g c = rw (c.in-Run.is, c.requires.task) c.run.ensures.goes
 
 pub returns-in-Format-clause-goes : goal.returns-in-Format-clause-goes
-returns-in-Format-clause-goes g c = rw c.in-Format.is c.format.ensures.goes
+returns-in-Format-clause-goes g c = rw (c.in-Format.is, c.requires.task) c.format.ensures.goes
 
 pub returns-in-Check-clause-goes : goal.returns-in-Check-clause-goes
-returns-in-Check-clause-goes g c = rw c.in-Check.is c.check.ensures.goes
+returns-in-Check-clause-goes g c = rw (c.in-Check.is, c.requires.task) c.check.ensures.goes
+
+pub returns-in-Mean-clause-goes : goal.returns-in-Mean-clause-goes
+returns-in-Mean-clause-goes g c = rw (c.in-Mean.is, c.requires.task) c.mean.ensures.goes
+
+pub returns-in-Analyse-clause-goes : goal.returns-in-Analyse-clause-goes
+returns-in-Analyse-clause-goes g c = rw c.in-Analyse.is c.analyse.ensures.goes
