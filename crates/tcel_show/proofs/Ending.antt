@@ -1,5 +1,5 @@
 -- A text that was put from its start.
-use Rattle.std.proofs.Common.{◌≡◌, ℕ, Result, Ok, Err, Bool, true, false, cond, List, [], ◌∷◌, ◌++◌, refl, sym, ap, ◌∙◌}
+use Rattle.std.proofs.Common.{◌≡◌, ℕ, Result, Ok, Err, false, List, [], ◌∷◌, ◌++◌, refl, sym, ap, ◌∙◌}
 use Rattle.std.specs.Prelude.{if◌then◌else◌, flat_map, map, IfOk}
 use Rattle.std.proofs.lemmas.List.{append-nil}
 use Rattle.tcel_token.specs.declared.keyword.Keyword.{Keyword}

@@ -1,12 +1,12 @@
 -- The canonical text of tokens has these tokens.
-use Rattle.std.proofs.Common.{◌≡◌, ℕ, zero, suc, ◌+◌, ◌<◌, ◌≤◌, ◌*◌, ◌-◌, ◌^◌, Bool, true, false, cond, List, [], ◌∷◌, ◌++◌, length, map, replicate, Option, Some, None, refl, sym, ap, ◌∙◌, subst, arith, append_assoc}
-use Rattle.std.specs.Prelude.{ℤ, pos, negsuc, ◌&&◌, ◌||◌, not, nat_lt, nat_le, nat_eq, flat_map, find, if◌then◌else◌, option_map, unwrap_or}
-use Rattle.std.specs.Char.{is_ascii_digit, digit_value}
+use Rattle.std.proofs.Common.{◌≡◌, ℕ, zero, suc, ◌<◌, ◌*◌, ◌-◌, ◌^◌, Bool, true, false, cond, List, [], ◌∷◌, ◌++◌, length, map, replicate, Option, Some, None, refl, sym, ap, ◌∙◌, arith, append_assoc}
+use Rattle.std.specs.Prelude.{pos, negsuc, ◌||◌, nat_eq, flat_map, find, if◌then◌else◌}
+use Rattle.std.specs.Char.{is_ascii_digit}
 use Rattle.std.specs.Cmp.Lexicographic.{pointwise}
 use Rattle.std.specs.Fmt.{decimal, signed_decimal}
-use Rattle.std.specs.List.{AllByRecursion, list_all, list_any}
+use Rattle.std.specs.List.{list_all, list_any}
 use Rattle.std.specs.Option.{option_to_list}
-use Rattle.std.specs.Str.Parse.{AllDigits, IsNumeral, digits_value}
+use Rattle.std.specs.Str.Parse.{AllDigits, digits_value}
 use Rattle.std.proofs.lemmas.Bool.{and_from, and_parts, le-leb, lt-ltb}
 use Rattle.std.proofs.lemmas.Fmt.{decimal_is_IsNumeral}
 use Rattle.std.proofs.lemmas.Int.{ints}
@@ -18,14 +18,14 @@ use Rattle.tcel_token.specs.declared.sign.Sign.{Sign}
 use Rattle.tcel_token.specs.declared.token.Token.{Token}
 use Rattle.tcel_token.specs.declared.token.TokenKind.{TokenKind}
 use Rattle.tcel_token.specs.declared.token.Tokens.{Tokens}
-use Rattle.tcel_token.specs.Pieces.{Piece, blank, word, number, sign, piece_bytes, bytes_of, is_piece, are_pieces, ends, goes_on, stops, kind_of, is_blank}
+use Rattle.tcel_token.specs.Pieces.{Piece, blank, word, number, sign, piece_bytes, bytes_of, is_piece, are_pieces, ends, goes_on, kind_of, is_blank}
 use Rattle.tcel_token.specs.Places.{place}
 use Rattle.tcel_token.specs.Spelling.{word_bytes, words, word_of, sign_bytes, kind_of_word}
-use Rattle.tcel_token.specs.Terminal.{Terminal, terminals, kinds}
+use Rattle.tcel_token.specs.Terminal.{terminals, kinds}
 use Rattle.tcel_token.specs.Tokens.{HasTokens, token_at, tokens_behind}
 use Rattle.tcel_token.specs.WellFormed.{IsWritable}
 use Rattle.tcel_show.specs.declared.writer.Before.{Before}
-use Rattle.tcel_show.specs.Layout.{Layout, start, spelling, closes, closes_block, is_else, new_line, behind_block, spaced, gap_behind, minus_before, sign_before, kind_before, behind, laid, whole_text, is_nothing}
+use Rattle.tcel_show.specs.Layout.{Layout, start, spelling, closes, closes_block, is_else, new_line, spaced, gap_behind, sign_before, kind_before, behind, laid, whole_text, is_nothing}
 use Rattle.tcel_show.proofs.ReadExprs.{Writable}
 use Rattle.tcel_show.proofs.Ending.{kind_some}
 

@@ -1,5 +1,8 @@
 pub mod Ending
 pub mod LaidTokens
+pub mod Lighter
+pub mod LighterExprs
+pub mod LighterPrograms
 pub mod PutExprs
 pub mod PutStmts
 pub mod Putting

@@ -1,5 +1,5 @@
 -- Statements are put piece by piece.
-use Rattle.std.proofs.Common.{◌≡◌, ℕ, ◌+◌, ◌<◌, List, [], ◌∷◌, ◌++◌, Option, Some, None, Result, length, get_or, map, take, option_map, refl, sym, ap, ◌∙◌, append_assoc}
+use Rattle.std.proofs.Common.{◌≡◌, ℕ, ◌+◌, ◌<◌, List, [], ◌∷◌, ◌++◌, Option, Some, None, Result, length, get_or, map, take, sym, ap, ◌∙◌, append_assoc}
 use Rattle.std.specs.Prelude.{OnOk}
 use Rattle.std.proofs.lemmas.List.{append-nil, map_more}
 use Rattle.tcel_num.specs.declared.at.At.{At}
@@ -12,7 +12,7 @@ use Rattle.tcel_tree.specs.declared.placed.Placed.{Placed}
 use Rattle.tcel_tree.specs.declared.stmt.Stmt as tree_stmt
 use Rattle.tcel_tree.specs.declared.stmt.StmtKind.TheVariants.{If, For, While, Do}
 use Rattle.tcel_tree.specs.declared.stmt.Window.{Window}
-use Rattle.tcel_tree.specs.Language.{Stmt, next, done}
+use Rattle.tcel_tree.specs.Language.{Stmt}
 use Rattle.tcel_tree.specs.Plain.{plain_expr, plain_stmt, plain_block, block_of}
 use Rattle.tcel_show.specs.declared.writer.Writer.{Writer}
 use Rattle.tcel_show.specs.Canonical.{block_tokens, braced, for_head, limit_tokens, stmt_tokens, whole_tokens, window_tokens, word, sign}

@@ -1,5 +1,5 @@
 -- Canonical tokens are read as the tree that they were made of: expressions.
-use Rattle.std.proofs.Common.{◌≡◌, ℕ, ◌<◌, Bool, true, false, cond, List, [], ◌∷◌, ◌++◌, Option, Some, None, refl, sym, ap, ◌∙◌, subst}
+use Rattle.std.proofs.Common.{◌≡◌, ℕ, Bool, true, false, cond, List, [], ◌∷◌, ◌++◌, Some, refl, sym, ap, ◌∙◌, subst}
 use Rattle.std.specs.Prelude.{ℤ, nat_lt}
 use Rattle.std.specs.List.{AllByRecursion}
 use Rattle.tcel_num.specs.Arithmetic.{is_unary}
@@ -12,7 +12,7 @@ use Rattle.tcel_token.specs.Terminal.{Terminal, kinds}
 use Rattle.tcel_token.specs.WellFormed.{IsWritable}
 use Rattle.tcel_tree.specs.Language.{Expr, number, truth, variable, element, unary, binary}
 use Rattle.tcel_tree.specs.Unplaced.{nowhere, unplaced_expr}
-use Rattle.tcel_grammar.specs.Expressions.{placed, IsPlaced, here, IsToken, there, binary_of, unary_of, Level, disjunction, conjunction, comparison, sum, term, factor, atom, level_of, IsBinary, between, IsUnary, before, IsExpr, a_conjunction, disjoined, a_comparison, conjoined, a_sum, compared, a_term, added, a_factor, multiplied, an_atom, applied, a_number, yes, no, a_variable, an_element, bracketed}
+use Rattle.tcel_grammar.specs.Expressions.{placed, IsPlaced, here, IsToken, there, unary_of, Level, disjunction, conjunction, comparison, sum, term, factor, atom, level_of, IsBinary, between, IsUnary, before, IsExpr, a_conjunction, disjoined, a_comparison, conjoined, a_sum, compared, a_term, added, a_factor, multiplied, an_atom, applied, a_number, yes, no, a_variable, an_element, bracketed}
 use Rattle.tcel_show.specs.Canonical.{op_token, rank, left_place, right_place, enclosed, truth_token, expr_tokens}
 
 -- a token of this kind stands in front of a rest
@@ -135,7 +135,7 @@ tightest _ = refl
 at_atom : {ts rest : List Terminal} {e : Expr} (l : Level) → Reads atom e ts rest → Reads l e ts rest
 at_atom l r = loosen_reads l atom (tightest l) r
 
-loosest : (l : Level) → nat_lt (rank l) 0 ≡ false
+pub loosest : (l : Level) → nat_lt (rank l) 0 ≡ false
 loosest disjunction = refl
 loosest _ = refl
 

@@ -17,16 +17,15 @@ use Rattle.tcel_tree.specs.declared.task.Decl.{Decl}
 use Rattle.tcel_tree.specs.declared.task.DeclKind.{DeclKind}
 use Rattle.tcel_tree.specs.Language.{Block, Task}
 use Rattle.tcel_tree.specs.Unplaced.{nowhere, unplaced, unplaced_block, unplaced_kind, unplaced_decl, unplaced_task, unplaced_program}
-use Rattle.tcel_grammar.specs.Expressions.{IsPlaced, IsToken}
-use Rattle.tcel_grammar.specs.Statements.{IsNumber, numbered, IsClause, IsBlock}
+use Rattle.tcel_grammar.specs.Expressions.{IsToken}
 use Rattle.tcel_grammar.specs.Programs as grammar
 use Rattle.tcel_grammar.specs.Programs.{IsFirst, unset, set, set_below, IsFirstTruth, unset_truth, set_true, set_false, IsInt, an_array, a_local, a_state, IsBool, a_local_truth, a_state_truth, IsDecl, an_input, an_output, an_int, a_bool, IsDecls, no_decl, one_decl, IsEvery, every, IsTask, task, IsProgram, last_task, one_task}
-use Rattle.tcel_show.specs.Canonical.{word, sign, clause_tokens, braced, block_tokens, first_tokens, first_truth_tokens, keeper, front_tokens, back_tokens, decl_tokens, every_tokens, task_tokens, program_tokens, truth_token}
-use Rattle.tcel_show.proofs.ReadExprs.{Front, Spells, Split, split, front_placed, front_token, last_placed, last_token, Writable, writable_then, placed_writable, token_writable}
-use Rattle.tcel_show.proofs.ReadStmts.{NumberKnown, number_known, placed_number, front_number, ReadsClause, clause_reads, ClauseKnown, clause_known, BlockKnown, KnowsBlock, block_known, ReadsBraced, braced_reads, braced_writable, ap_two, ap_three}
+use Rattle.tcel_show.specs.Canonical.{word, sign, clause_tokens, braced, block_tokens, first_tokens, first_truth_tokens, keeper, front_tokens, back_tokens, decl_tokens, task_tokens, program_tokens}
+use Rattle.tcel_show.proofs.ReadExprs.{Front, Spells, split, front_placed, front_token, last_placed, last_token, Writable, writable_then, placed_writable, token_writable}
+use Rattle.tcel_show.proofs.ReadStmts.{number_known, placed_number, front_number, clause_reads, clause_known, BlockKnown, block_known, braced_reads, braced_writable, ap_two, ap_three}
 
 -- the number below 0 of a written one is not wrapped
-below_same : (n : ℤ) → IsWritable (TokenKind.Number n) → unary_value Op.Neg n ≡ neg_ℤ n
+pub below_same : (n : ℤ) → IsWritable (TokenKind.Number n) → unary_value Op.Neg n ≡ neg_ℤ n
 below_same (pos zero) w = int_wrap_fits w64 (pos zero) (record { sfits = omega arith })
 below_same (pos (suc n)) w = int_wrap_fits w64 (negsuc n) (record { sfits = omega (arith, ints) })
 below_same (negsuc n) w = absurd (omega (arith, ints))
@@ -148,20 +147,20 @@ bool_known (a_state_truth {first = first} f) w =
     }
 
 -- a declaration
-record ReadsDecl (d : Decl) (ts rest : List Terminal) : Type 0 where
+pub record ReadsDecl (d : Decl) (ts rest : List Terminal) : Type 0 where
   pub tree : Decl
   pub grammar : IsDecl ts tree rest
   pub same : unplaced_decl tree ≡ unplaced_decl d
 
-record DeclKnown (d : Decl) : Type 0 where
+pub record DeclKnown (d : Decl) : Type 0 where
   pub tokens : Writable (decl_tokens d)
   pub reads : (us vs : List Terminal) → Spells (decl_tokens d) us vs → ReadsDecl d us vs
 
-record KnowsDecl (d : Decl) (rest : List Terminal) : Type 0 where
+pub record KnowsDecl (d : Decl) (rest : List Terminal) : Type 0 where
   pub known : DeclKnown d
   pub behind : Writable (kinds rest)
 
-abbrev decl_of : DeclKind → List ℕ → At → Decl
+abbrev pub decl_of : DeclKind → List ℕ → At → Decl
 decl_of kind name at = record { kind = kind; name = name; at = at }
 
 keeper_writable : (state : Bool) → IsWritable (keeper state)
@@ -173,11 +172,11 @@ keeper_token true f = front_token f
 keeper_token false f = front_token f
 
 -- the tokens of a declared variable
-abbrev variable_tokens : Bool → Keyword → List ℕ → DeclKind → List TokenKind
+abbrev pub variable_tokens : Bool → Keyword → List ℕ → DeclKind → List TokenKind
 variable_tokens state type name kind =
     keeper state ∷ word type ∷ TokenKind.Name name ∷ (back_tokens kind ++ sign Sign.Semicolon ∷ [])
 
-variable_tokens_are : (state : Bool) (type : Keyword) (name : List ℕ) (at : At) (kind : DeclKind) → front_tokens kind ≡ keeper state ∷ word type ∷ [] →
+pub variable_tokens_are : (state : Bool) (type : Keyword) (name : List ℕ) (at : At) (kind : DeclKind) → front_tokens kind ≡ keeper state ∷ word type ∷ [] →
     decl_tokens (decl_of kind name at) ≡ variable_tokens state type name kind
 variable_tokens_are state type name at kind front =
     ap (λ (ts : List TokenKind). ts ++ TokenKind.Name name ∷ (back_tokens kind ++ sign Sign.Semicolon ∷ [])) front
@@ -213,7 +212,7 @@ bool_reads state kind name at reads us vs s =
       same = same_decl back.tree kind name back.same;
     }
 
-decl_known : {ts rest : List Terminal} {d : Decl} → IsDecl ts d rest → Writable (kinds ts) → KnowsDecl d rest
+pub decl_known : {ts rest : List Terminal} {d : Decl} → IsDecl ts d rest → Writable (kinds ts) → KnowsDecl d rest
 decl_known (an_input {at = at} {name = name} i n e) w =
     let q = placed_writable n (token_writable i w) in
     record {
@@ -344,12 +343,12 @@ every_known (every {period = period} {finish = finish} {body = body} e n c b) w 
     }
 
 -- a task
-record ReadsTask (t : Task) (ts rest : List Terminal) : Type 0 where
+pub record ReadsTask (t : Task) (ts rest : List Terminal) : Type 0 where
   pub tree : Task
   pub grammar : IsTask ts tree rest
   pub same : unplaced_task tree ≡ unplaced_task t
 
-record KnowsTask (t : Task) (rest : List Terminal) : Type 0 where
+pub record KnowsTask (t : Task) (rest : List Terminal) : Type 0 where
   pub tokens : Writable (task_tokens t)
   pub reads : (us vs : List Terminal) → Spells (task_tokens t) us vs → ReadsTask t us vs
   pub behind : Writable (kinds rest)
@@ -384,7 +383,7 @@ task_reads t ds ev us vs s =
           ∙ ap_three (bare t.name (unplaced t.priority) (map unplaced_decl t.decls)) e.same_number e.same_clause e.same;
     }
 
-task_known : {ts rest : List Terminal} {t : Task} → IsTask ts t rest → Writable (kinds ts) → KnowsTask t rest
+pub task_known : {ts rest : List Terminal} {t : Task} → IsTask ts t rest → Writable (kinds ts) → KnowsTask t rest
 task_known (task {at = at} {name = name} {priority = priority} {period = period} {decls = decls} {finish = finish} {body = body} t n p v l d e r) w =
     let name_behind = placed_writable n (token_writable t w) in
     let number = number_known v (token_writable p name_behind.1) in

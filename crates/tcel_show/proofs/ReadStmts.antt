@@ -1,5 +1,5 @@
 -- Canonical tokens are read as the tree that they were made of: statements and blocks.
-use Rattle.std.proofs.Common.{◌≡◌, ℕ, List, [], ◌∷◌, ◌++◌, Option, Some, None, option_map, refl, sym, ap, ◌∙◌, subst}
+use Rattle.std.proofs.Common.{◌≡◌, ℕ, List, [], ◌∷◌, ◌++◌, Option, Some, None, option_map, refl, ap, ◌∙◌, subst}
 use Rattle.std.specs.Prelude.{ℤ}
 use Rattle.tcel_num.specs.declared.at.At.{At}
 use Rattle.tcel_token.specs.declared.keyword.Keyword.{Keyword}
@@ -10,11 +10,11 @@ use Rattle.tcel_token.specs.WellFormed.{IsWritable}
 use Rattle.tcel_tree.specs.declared.placed.Placed.{Placed}
 use Rattle.tcel_tree.specs.declared.stmt.Window.{Window}
 use Rattle.tcel_tree.specs.Language.{Expr, Block, done, next, Stmt, assign, assign_at, receive, send, choice, for_loop, while_loop, timed, Branch, absent, present}
-use Rattle.tcel_tree.specs.Unplaced.{nowhere, unplaced, unplaced_expr, unplaced_window, unplaced_block, unplaced_stmt, unplaced_branch}
-use Rattle.tcel_grammar.specs.Expressions.{disjunction, IsPlaced, IsToken}
-use Rattle.tcel_grammar.specs.Statements.{IsWhole, IsNumber, numbered, IsClause, unsaid, said, IsWindow, window, IsBlock, block, IsStmts, no_more, one_more, IsStmt, assigned, assigned_at, received, sent, chosen, counted, repeated, done_in, IsBranch, no_else, with_else}
-use Rattle.tcel_show.specs.Canonical.{whole_tokens, word, sign, clause_tokens, window_tokens, braced, for_head, limit_tokens, block_tokens, stmt_tokens, branch_tokens}
-use Rattle.tcel_show.proofs.ReadExprs.{Front, Spells, Split, split, front_placed, front_token, last_placed, last_token, Writable, writable_then, placed_writable, token_writable, Reads, Known, Knows, expr_known}
+use Rattle.tcel_tree.specs.Unplaced.{nowhere, unplaced, unplaced_window, unplaced_block, unplaced_stmt, unplaced_branch}
+use Rattle.tcel_grammar.specs.Expressions.{disjunction}
+use Rattle.tcel_grammar.specs.Statements.{IsNumber, numbered, IsClause, unsaid, said, IsWindow, window, IsBlock, block, IsStmts, no_more, one_more, IsStmt, assigned, assigned_at, received, sent, chosen, counted, repeated, done_in, IsBranch, no_else, with_else}
+use Rattle.tcel_show.specs.Canonical.{whole_tokens, word, sign, clause_tokens, window_tokens, braced, limit_tokens, block_tokens, stmt_tokens, branch_tokens}
+use Rattle.tcel_show.proofs.ReadExprs.{Front, Spells, split, front_placed, front_token, last_placed, last_token, Writable, writable_then, placed_writable, token_writable, Known, expr_known}
 
 -- a number with its place
 pub record NumberKnown (n : Placed) (rest : List Terminal) : Type 0 where

@@ -1,7 +1,6 @@
 -- Trees that are equal but for places have the same canonical tokens.
 use Rattle.std.proofs.Common.{◌≡◌, ℕ, List, [], ◌∷◌, ◌++◌, Option, Some, None, map, option_map, refl, sym, ap, ◌∙◌}
 use Rattle.std.specs.Prelude.{flat_map}
-use Rattle.tcel_num.specs.declared.op.Op.{Op}
 use Rattle.tcel_token.specs.declared.keyword.Keyword.{Keyword}
 use Rattle.tcel_token.specs.declared.sign.Sign.{Sign}
 use Rattle.tcel_token.specs.declared.token.TokenKind.{TokenKind}
@@ -13,7 +12,7 @@ use Rattle.tcel_tree.specs.declared.task.DeclKind.TheVariants.{Input, Output, In
 use Rattle.tcel_tree.specs.Language.{Expr, number, truth, variable, element, unary, binary, Block, done, next, Stmt, assign, assign_at, receive, send, choice, for_loop, while_loop, timed, Branch, absent, present, Task}
 use Rattle.tcel_tree.specs.Unplaced.{unplaced, unplaced_expr, unplaced_window, unplaced_block, unplaced_stmt, unplaced_branch, unplaced_kind, unplaced_decl, unplaced_task, unplaced_program}
 use Rattle.tcel_grammar.specs.Expressions.{Level, disjunction, factor, atom, level_of}
-use Rattle.tcel_show.specs.Canonical.{op_token, left_place, right_place, enclosed, expr_tokens, whole_tokens, word, sign, clause_tokens, window_tokens, braced, for_head, limit_tokens, block_tokens, stmt_tokens, branch_tokens, front_tokens, back_tokens, decl_tokens, every_tokens, task_tokens, program_tokens}
+use Rattle.tcel_show.specs.Canonical.{op_token, left_place, right_place, enclosed, expr_tokens, whole_tokens, word, sign, clause_tokens, window_tokens, braced, for_head, limit_tokens, block_tokens, stmt_tokens, branch_tokens, front_tokens, back_tokens, decl_tokens, task_tokens, program_tokens}
 use Rattle.tcel_show.proofs.ReadStmts.{ap_two, ap_three}
 
 same_expr : (e : Expr) (place : Level) → expr_tokens (unplaced_expr e) place ≡ expr_tokens e place

@@ -1,5 +1,5 @@
 -- Worked examples of canonical text.
-use Rattle.std.specs.Prelude.{ℕ, ℤ, pos, negsuc, Bool, true, false, List, [], ◌∷◌, ◌++◌, Option, Some, None, codes, flat_map}
+use Rattle.std.specs.Prelude.{ℕ, pos, negsuc, true, false, List, [], ◌∷◌, ◌++◌, Some, None, codes, flat_map}
 use Rattle.tcel_num.specs.declared.op.Op.{Op}
 use Rattle.tcel_tree.specs.declared.placed.Placed.{Placed}
 use Rattle.tcel_tree.specs.declared.task.Decl.{Decl}

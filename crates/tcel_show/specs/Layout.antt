@@ -1,5 +1,5 @@
 -- How tokens are laid out: two spaces of indentation a block, one declaration or statement a line, one space between tokens.
-use Rattle.std.specs.Prelude.{ℕ, ◌+◌, ◌-◌, ◌*◌, ℤ, Bool, true, false, if◌then◌else◌, List, [], ◌∷◌, ◌++◌, replicate}
+use Rattle.std.specs.Prelude.{ℕ, ◌+◌, ◌-◌, ◌*◌, Bool, true, false, if◌then◌else◌, List, [], ◌∷◌, ◌++◌, replicate}
 use Rattle.std.specs.Fmt.{signed_decimal}
 use Rattle.tcel_token.specs.declared.keyword.Keyword.{Keyword}
 use Rattle.tcel_token.specs.declared.sign.Sign.{Sign}

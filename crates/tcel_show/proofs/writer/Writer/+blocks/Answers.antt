@@ -1,4 +1,4 @@
-use Rattle.std.proofs.Common.{◌≡◌, List, length, take, subst, arith, ◌∷◌}
+use Rattle.std.proofs.Common.{◌≡◌, List, take, subst, ◌∷◌}
 use Rattle.std.proofs.lemmas.List.{take_all}
 use Rattle.tcel_tree.specs.declared.stmt.Stmt.{Stmt}
 use Rattle.tcel_tree.specs.Plain.{plain_block}

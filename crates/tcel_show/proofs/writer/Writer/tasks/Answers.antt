@@ -1,6 +1,6 @@
 use Rattle.tcel_tree.specs.Plain.{plain_task}
 use Rattle.tcel_show.specs.Canonical.{task_tokens}
-use Rattle.tcel_show.proofs.Putting.{put_each, put_all}
+use Rattle.tcel_show.proofs.Putting.{put_each}
 use Rattle.tcel_show.proofs.writer.Writer.tasks.Goals as goal
 
 pub loop-task-preserved : goal.loop-task-preserved
