@@ -11,7 +11,7 @@ use Rattle.tcel_tool.specs.CommandLine.{AreWords, fit, is_number, word_at}
 use Rattle.tcel_tool.specs.Commands.{HasForm, HaveNoForm, name_of}
 use Rattle.tcel_tool.specs.declared.command.Slot.{Slot}
 use Rattle.tcel_tool.specs.declared.command.Command.{Command}
-use Rattle.tcel_tool.specs.declared.command.Command.TheVariants.{Compile, Run, Format, Check, Mean, Analyse}
+use Rattle.tcel_tool.specs.declared.command.Command.TheVariants.{Compile, Run, Format, Check, Mean, Analyse, Timeline}
 
 -- no two commands have one name
 abbrev command_named : List ℕ → Command
@@ -19,7 +19,8 @@ command_named word =
     if pointwise nat_eq word (name_of Compile) then Compile
     else (if pointwise nat_eq word (name_of Run) then Run
     else (if pointwise nat_eq word (name_of Format) then Format
-    else (if pointwise nat_eq word (name_of Check) then Check else (if pointwise nat_eq word (name_of Mean) then Mean else Analyse))))
+    else (if pointwise nat_eq word (name_of Check) then Check
+    else (if pointwise nat_eq word (name_of Mean) then Mean else (if pointwise nat_eq word (name_of Analyse) then Analyse else Timeline)))))
 
 named : (command : Command) → command_named (name_of command) ≡ command
 named Compile = refl
@@ -28,6 +29,7 @@ named Format = refl
 named Check = refl
 named Mean = refl
 named Analyse = refl
+named Timeline = refl
 
 one_name : (a b : Command) → name_of a ≡ name_of b → a ≡ b
 one_name a b e = sym (named a) ∙ ap command_named e ∙ named b
@@ -38,13 +40,15 @@ one_form [] a b h k = absurd h
 one_form (first ∷ words) a b h k = one_name a b (sym h.0 ∙ k.0)
 
 -- words that have the form of none of these have the form of none
-pub of_none : (words : List (List ℕ)) → AllByRecursion (λ (command : Command). ¬ HasForm command words) (Compile ∷ Run ∷ Format ∷ Check ∷ Mean ∷ Analyse ∷ []) → HaveNoForm words
+pub of_none : (words : List (List ℕ)) → AllByRecursion (λ (command : Command). ¬ HasForm command words) (Compile ∷ Run ∷ Format ∷ Check ∷ Mean ∷ Analyse ∷ Timeline ∷ [])
+    → HaveNoForm words
 of_none words none Compile = none.0
 of_none words none Run = none.1.0
 of_none words none Format = none.1.1.0
 of_none words none Check = none.1.1.1.0
 of_none words none Mean = none.1.1.1.1.0
 of_none words none Analyse = none.1.1.1.1.1.0
+of_none words none Timeline = none.1.1.1.1.1.1.0
 
 both : (a b : Bool) → IsTrue (a && b) → IsTrue a × IsTrue b
 both true b h = (refl, h)

@@ -16,6 +16,10 @@ pub mod RunStages
 pub mod CheckStages
 pub mod Forms
 pub mod RunLines
+pub mod SpanLaws
+pub mod SpanWalks
+pub mod SpanExamples
+pub mod Timelines
 pub mod Written
 pub mod FewOperators
 pub mod Checkable

@@ -19,6 +19,10 @@ run_line ticks = codes "run" ∷ codes "a" ∷ codes "b" ∷ ticks ∷ []
 abbrev pub mean_line : List ℕ → List (List ℕ)
 mean_line frames = codes "mean" ∷ codes "a" ∷ codes "b" ∷ frames ∷ []
 
+-- `timeline a b`, and the ticks
+abbrev pub timeline_line : List ℕ → List (List ℕ)
+timeline_line ticks = codes "timeline" ∷ codes "a" ∷ codes "b" ∷ ticks ∷ []
+
 -- `compile a b`, `analyse a b`, `format a`, `check a`
 abbrev pub compile_line : List (List ℕ)
 compile_line = codes "compile" ∷ codes "a" ∷ codes "b" ∷ []

@@ -17,8 +17,9 @@ use Rattle.tcel_tool.specs.Stage.{Call, Stage}
 use Rattle.tcel_tool.specs.TargetText.{GivesCosts, RefusesTarget}
 use Rattle.tcel_tool.specs.Test.{Test}
 use Rattle.tcel_tool.specs.Test as tests
+use Rattle.tcel_tool.specs.TimelineCommand as timeline
 use Rattle.tcel_tool.specs.declared.command.Command.{Command}
-use Rattle.tcel_tool.specs.declared.command.Command.TheVariants.{Compile, Run, Format, Check, Mean, Analyse}
+use Rattle.tcel_tool.specs.declared.command.Command.TheVariants.{Compile, Run, Format, Check, Mean, Analyse, Timeline}
 use Rattle.tcel_tool.specs.declared.command.Slot.{Slot}
 use Rattle.tcel_tool.specs.declared.status.Status.{Status}
 
@@ -29,6 +30,7 @@ name_of Format = format.name
 name_of Check = check.name
 name_of Mean = mean.name
 name_of Analyse = analyse.name
+name_of Timeline = timeline.name
 
 abbrev pub slots_of : Command → List Slot
 slots_of Compile = compile.slots
@@ -37,6 +39,7 @@ slots_of Format = format.slots
 slots_of Check = check.slots
 slots_of Mean = mean.slots
 slots_of Analyse = analyse.slots
+slots_of Timeline = timeline.slots
 
 abbrev pub stages_of : Command → List Stage
 stages_of Compile = compile.stages
@@ -45,6 +48,7 @@ stages_of Format = format.stages
 stages_of Check = check.stages
 stages_of Mean = mean.stages
 stages_of Analyse = analyse.stages
+stages_of Timeline = timeline.stages
 
 -- what a command writes to its output, in pieces, each by one put
 abbrev pub IsText : Command → Call → List (List ℕ) → Type 0
@@ -54,6 +58,7 @@ IsText Format = format.IsText
 IsText Check = check.IsText
 IsText Mean = mean.IsText
 IsText Analyse = analyse.IsText
+IsText Timeline = timeline.IsText
 
 -- what passes a test
 abbrev pub Passes : Test → Call → Type 0

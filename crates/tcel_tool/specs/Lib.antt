@@ -21,8 +21,11 @@ pub mod Report
 pub mod ReportExamples
 pub mod RunCommand
 pub mod ScriptText
+pub mod SpanExamples
+pub mod Spans
 pub mod Stage
 pub mod Stretch
 pub mod StateText
 pub mod Test
+pub mod TimelineCommand
 pub mod WrittenImages

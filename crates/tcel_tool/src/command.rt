@@ -13,6 +13,7 @@ pub enum Command {
     Check,
     Mean,
     Analyse,
+    Timeline,
 }
 
 /// What a word behind a command's name is: the name of a file, or 1 to 18 decimal digits.
@@ -22,13 +23,14 @@ pub enum Slot {
     Number,
 }
 
-const COMMANDS: [Command; 6] = [
+const COMMANDS: [Command; 7] = [
     Command::Compile,
     Command::Run,
     Command::Format,
     Command::Check,
     Command::Mean,
     Command::Analyse,
+    Command::Timeline,
 ];
 
 const MOST_DIGITS: usize = 18;
@@ -44,6 +46,7 @@ impl Command {
             Command::Check => "check",
             Command::Mean => "mean",
             Command::Analyse => "analyse",
+            Command::Timeline => "timeline",
         }
     }
 
@@ -52,7 +55,9 @@ impl Command {
     {
         match self {
             Command::Compile | Command::Analyse => &[Slot::File, Slot::File],
-            Command::Run | Command::Mean => &[Slot::File, Slot::File, Slot::Number],
+            Command::Run | Command::Mean | Command::Timeline => {
+                &[Slot::File, Slot::File, Slot::Number]
+            }
             Command::Format | Command::Check => &[Slot::File],
         }
     }

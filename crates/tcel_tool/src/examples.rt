@@ -1,16 +1,21 @@
-ghost use Rattle.std.specs.Prelude.{◌≡◌, [], ◌∷◌, codes, false, true};
+ghost use Rattle.std.specs.Prelude.{◌≡◌, ◌≢◌, ◌≤◌, ℕ, List, [], ◌∷◌, codes, false, true};
 ghost use Rattle.tcel_tool.specs.CheckCommand.{RefusesTasks};
 ghost use Rattle.std.specs.List.{concat};
+ghost use Rattle.tcel_num.specs.Plan.{Plan};
 ghost use Rattle.tcel_tool.specs.Answer.{IsDecided};
 ghost use Rattle.tcel_tool.specs.Report.{is_sliced};
 ghost use Rattle.tcel_tool.specs.ReportExamples.{last_sliced, plan_text, wanted_text};
 ghost use Rattle.tcel_tool.specs.CommandExamples.{analyse_line, check_line, compile_line, format_line, late_point, long_hyper};
-ghost use Rattle.tcel_tool.specs.CommandExamples.{many_cells, many_tasks, mean_line, nothing_told};
+ghost use Rattle.tcel_tool.specs.CommandExamples.{many_cells, many_tasks, mean_line, nothing_told, timeline_line};
 ghost use Rattle.tcel_tool.specs.CommandExamples.{run_line, same_priority, seventeen, sixteen, too_deep, too_many, too_many_frames, unexpected};
 ghost use Rattle.tcel_tool.specs.MeanExamples.{alarm_pieces, alarm_text, both_pieces, both_text};
 ghost use Rattle.tcel_tool.specs.Commands.{HasForm, HaveNoForm};
 ghost use Rattle.tcel_tool.specs.FaultLine.{fault_pieces};
-ghost use Rattle.tcel_tool.specs.declared.command.Command.TheVariants.{Analyse, Check, Compile, Format, Mean, Run};
+ghost use Rattle.tcel_tool.specs.SpanExamples.{full, full_idle, full_short, full_spans, full_split, idle, idle_lines, idle_spans};
+ghost use Rattle.tcel_tool.specs.SpanExamples.{preempted, preempted_lines, preempted_spans, set};
+ghost use Rattle.tcel_tool.specs.Spans.{AreLines, AreSpans};
+ghost use Rattle.tcel_tool.specs.declared.command.Command.TheVariants.{Analyse, Check, Compile, Format, Mean, Run, Timeline};
+ghost use Rattle.tcel_tool.specs.declared.spans.Span.{Span};
 ghost use Rattle.tcel_tool.specs.declared.status.Status.{Status};
 
 /// Words that are a command's and words that are none, a status that the words alone decide, and fault lines (docs/commands.md).
@@ -21,6 +26,7 @@ pub fn command_examples()
     ensures run { HasForm Run (run_line (codes "0010")) }
     ensures mean { HasForm Mean (mean_line (codes "2")) }
     ensures analyse { HasForm Analyse analyse_line }
+    ensures timeline { HasForm Timeline (timeline_line (codes "6")) }
     ensures other_command { HasForm Compile format_line → ⊥ }
     ensures eighteen_digits { HasForm Run (run_line (codes "999999999999999999")) }
     ensures nineteen_digits { HaveNoForm (run_line (codes "1000000000000000000")) }
@@ -32,6 +38,7 @@ pub fn command_examples()
     ensures no_words { HaveNoForm [] }
     ensures most_ticks { IsDecided Run nothing_told (run_line (codes "10000000")) too_many → ⊥ }
     ensures too_many_ticks { IsDecided Run nothing_told (run_line (codes "10000001")) too_many }
+    ensures too_long { IsDecided Timeline nothing_told (timeline_line (codes "10000001")) too_many }
     ensures line { concat (fault_pieces format_line unexpected []) ≡ codes "program 1:38: unexpected token\n" }
     ensures deep { concat (fault_pieces format_line too_deep []) ≡ codes "limit: operators above 64 at 12:304\n" }
     ensures fault { concat (fault_pieces check_line same_priority []) ≡ codes "program 2:17: same priority\n" }
@@ -62,4 +69,25 @@ pub fn report_examples()
     ensures lines { plan_text ≡ wanted_text }
     ensures whole { is_sliced last_sliced 0 ≡ false }
     ensures sliced { is_sliced last_sliced 1 ≡ true }
+{}
+
+/// Between two times the schedule of any plans has one list of spans, in which neighbours serve different tasks, or a task and none (docs/formats.md).
+pub fn spans_law()
+    ensures some { (plans : List Plan) (from to : ℕ) → from ≤ to → (spans : List Span) × AreSpans plans from to spans }
+    ensures differ { (plans : List Plan) (from to : ℕ) (a b : Span) (rest : List Span) → AreSpans plans from to (a ∷ b ∷ rest) → a.task ≢ b.task }
+    ensures one { (plans : List Plan) (from to : ℕ) (a b : List Span) → AreSpans plans from to a → AreSpans plans from to b → a ≡ b }
+{}
+
+/// Spans of schedules, lists that are none, and their lines (docs/formats.md).
+pub fn timeline_examples()
+    ensures full { AreSpans full 0 6 full_spans }
+    ensures split { AreSpans full 0 6 full_split → ⊥ }
+    ensures not_idle { AreSpans full 0 6 full_idle → ⊥ }
+    ensures short { AreSpans full 0 6 full_short → ⊥ }
+    ensures preempted { AreSpans preempted 0 16 preempted_spans }
+    ensures idle { AreSpans idle 0 9 idle_spans }
+    ensures no_ticks { AreSpans idle 0 0 [] }
+    ensures preempted_lines { AreLines set preempted 0 16 preempted_lines }
+    ensures idle_lines { AreLines set idle 0 9 idle_lines }
+    ensures no_lines { AreLines set idle 0 0 [] }
 {}

@@ -37,11 +37,16 @@ mod program_tests;
 mod report;
 mod run;
 mod script;
+mod span_line;
+mod spans;
 mod stages;
 mod state_text;
 mod status;
 #[cfg(test)]
 mod tests;
+mod timeline;
+#[cfg(test)]
+mod timeline_tests;
 mod tool;
 mod writing;
 

@@ -25,7 +25,8 @@ use tcel_verify::{Ready, verify};
 /// The most bytes of an image.
 const RUN_LIMIT: usize = 16_777_216;
 
-const MOST_TICKS: u64 = 10_000_000;
+/// The most ticks of a command.
+pub(crate) const MOST_TICKS: u64 = 10_000_000;
 
 /// Writes the trace of the image of word 1 on the script of word 2, for the number of ticks of word 3.
 pub(crate) fn run<H: Shelf, K: Sink>(

@@ -17,6 +17,7 @@ use crate::format::format;
 use crate::mean::mean;
 use crate::run::run;
 use crate::status::Status;
+use crate::timeline::timeline;
 use std::alloc::Global;
 use tcel_io::{Shelf, Sink};
 use tcel_num::Name;
@@ -111,5 +112,6 @@ fn body<H: Shelf, K: Sink>(
         Command::Check => check(alloc, words, shelf, out),
         Command::Mean => mean(alloc, words, shelf, out),
         Command::Analyse => analyse(alloc, words, shelf, out, task),
+        Command::Timeline => timeline(alloc, words, shelf, out, task),
     }
 }

@@ -17,3 +17,6 @@ returns-in-Mean-clause-goes g c = rw (c.in-Mean.is, c.requires.task) c.mean.ensu
 
 pub returns-in-Analyse-clause-goes : goal.returns-in-Analyse-clause-goes
 returns-in-Analyse-clause-goes g c = rw c.in-Analyse.is c.analyse.ensures.goes
+
+pub returns-in-Timeline-clause-goes : goal.returns-in-Timeline-clause-goes
+returns-in-Timeline-clause-goes g c = rw c.in-Timeline.is c.timeline.ensures.goes
