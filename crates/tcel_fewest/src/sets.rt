@@ -7,8 +7,9 @@ use tcel_demand::TaskPlan;
 use tcel_driver::Forms;
 use tcel_num::NoMemory;
 
-/// Whether the set has the task below which there are so many.
-fn has(set: u16, below: usize) -> bool
+/// Whether the set of this number has the task below which there are so many, at most 11; below the lowest
+/// task there are 0 (docs/analysis.md).
+pub fn has(set: u16, below: usize) -> bool
     requires { below < 12 }
     ensures { result ≡ has_task set below }
 {

@@ -2,7 +2,7 @@ ghost use Rattle.std.specs.Prelude.{◌≡◌, ◌≤◌, [], ◌∷◌, IfOk, l
 ghost use Rattle.tcel_num.specs.Plan.{frame, within};
 ghost use Rattle.tcel_driver.specs.Steps.{ArePaired};
 
-use crate::{SetFault, Why, fewest};
+use crate::{SetFault, Why, fewest, has};
 use sqlite_items::Items;
 use std::alloc::Global;
 use std::test::Fail;
@@ -192,5 +192,14 @@ fn no_set_fits(rt: HostRuntime) -> Result<(), Fail> {
         answer.faults.get(1).copied(),
         Some(late(1, 0, 1, PointName::Within(1), 12, 5))
     );
+    Ok(())
+}
+
+// Number 5, which is 4 and 1, has the tasks with two tasks below and with none.
+#[test]
+fn members_of_a_set(rt: HostRuntime) -> Result<(), Fail> {
+    assert!(rt; has(5, 2));
+    assert!(rt; !has(5, 1));
+    assert!(rt; has(5, 0));
     Ok(())
 }

@@ -94,6 +94,8 @@ refusal tests.program call status (inr (tokens, lexed, inl h)) = becomes status 
 refusal tests.program call status (inr (tokens, lexed, inr h)) = deep_refusal h.0 h.1 status h.2
 refusal tests.faultless call status (tasks, program, (mark, is, first)) = mark_refusal mark.at mark.row status is
 refusal tests.inputs call status (tasks, faultless, refuses) = script_refusal (set_rows (set_of tasks)) (call.read 2) status refuses
+refusal tests.few call status (tasks, faultless, (is, many)) = becomes status _ is refl
+refusal tests.forms call status h = cause_refusal h.refused.0 status h.refused.1 h.refused.2
 
 no_refusal : (what : Test) (call : Call) (status given : Status) → Refuses what call status → status ≡ given → is_refusal given ≡ false → ⊥
 no_refusal what call status given h e none = let is : is_refusal status ≡ true = refusal what call status h in let same : is_refusal status ≡ is_refusal given = ap is_refusal e in cc

@@ -1,6 +1,6 @@
 -- How commands that compile go on behind their program and behind their target.
 use Rattle.std.proofs.Common.{◌≡◌, ℕ, List, [], ◌∷◌, Option, Result, Ok, Err, inl, inr, refl, sym, subst}
-use Rattle.std.specs.Prelude.{IfErr, IfOk, IsErrAnd}
+use Rattle.std.specs.Prelude.{IfErr, IsErrAnd}
 use Rattle.tcel_check.specs.Checked.{set_of}
 use Rattle.tcel_check.specs.Rows.{marks}
 use Rattle.tcel_core.specs.Language as core
@@ -11,7 +11,7 @@ use Rattle.tcel_tool.specs.Answer.{Loads, OrMemory, begun, with_read}
 use Rattle.tcel_tool.specs.CheckCommand.{IsFaultless, RefusesFaults, RefusesTasks}
 use Rattle.tcel_tool.specs.ProgramText.{IsProgramText}
 use Rattle.tcel_tool.specs.SetChoice.{Choice, IsBest, IsChoiceFor, Names, NamesTask, RefusesChoice, RefusesSet, choice_stages}
-use Rattle.tcel_tool.specs.Stage.{Call, load, test}
+use Rattle.tcel_tool.specs.Stage.{Call, Stage, load, test}
 use Rattle.tcel_tool.specs.Stretch.{Passed, Stopped}
 use Rattle.tcel_tool.specs.TargetText.{GivesCosts}
 use Rattle.tcel_tool.specs.Test as tests
@@ -45,7 +45,7 @@ abbrev pub read_both : {words : List (List ℕ)} {shelf next last : SeenShelf} {
 read_both {next = next} {costs = costs} given first free loaded same gives =
     record { next = next; first = first; free = free; loaded = loaded; gives = subst (λ t. GivesCosts t costs) same gives }
 
-abbrev faultless : {words : List (List ℕ)} {shelf next : SeenShelf} {program : List ℕ} {tasks : List Task} → ReadProgram words shelf next program tasks
+abbrev pub faultless : {words : List (List ℕ)} {shelf next : SeenShelf} {program : List ℕ} {tasks : List Task} → ReadProgram words shelf next program tasks
     → marks tasks ≡ [] → IsFaultless program tasks
 faultless read free = record { program = read.is; free = free }
 
@@ -56,15 +56,21 @@ with_program words program = with_read 1 program (begun words)
 abbrev pub with_both : List (List ℕ) → List ℕ → List ℕ → Call
 with_both words program target = with_read 2 target (with_program words program)
 
-module _ {words : List (List ℕ)} {shelf next : SeenShelf} {program : List ℕ} {tasks : List Task} (new : SeenShelf) (status : Status) (task : Option (List ℕ)) where
-  abbrev pub stopped_behind_program : ReadProgram words shelf next program tasks
-      → Stopped (test tests.faultless ∷ load 2 65536 ∷ test tests.target ∷ test tests.choice ∷ []) (with_program words program) next new status task
-      → Stopped choice_stages (begun words) shelf new status task
+-- the stages of a program, and then these
+abbrev pub program_then : List Stage → List Stage
+program_then more = load 1 1048576 ∷ test tests.program ∷ test tests.faultless ∷ more
+
+-- those of a target and a choice
+abbrev pub behind_set : List Stage
+behind_set = load 2 65536 ∷ test tests.target ∷ test tests.choice ∷ []
+
+module _ {words : List (List ℕ)} {shelf next : SeenShelf} {program : List ℕ} {tasks : List Task} (more : List Stage) (new : SeenShelf) (status : Status) (task : Option (List ℕ)) where
+  abbrev pub stopped_behind_program : ReadProgram words shelf next program tasks → Stopped (test tests.faultless ∷ more) (with_program words program) next new status task
+      → Stopped (program_then more) (begun words) shelf new status task
   stopped_behind_program read rest = inr (program, next, read.loaded, inr ((tasks, read.is), rest))
 
-  abbrev pub stopped_behind_set : ReadProgram words shelf next program tasks → marks tasks ≡ []
-      → Stopped (load 2 65536 ∷ test tests.target ∷ test tests.choice ∷ []) (with_program words program) next new status task
-      → Stopped choice_stages (begun words) shelf new status task
+  abbrev pub stopped_behind_set : ReadProgram words shelf next program tasks → marks tasks ≡ [] → Stopped more (with_program words program) next new status task
+      → Stopped (program_then more) (begun words) shelf new status task
   stopped_behind_set read free rest = stopped_behind_program read (inr ((tasks, faultless read free), rest))
 
 -- a fault of the program is one of the text
@@ -90,7 +96,7 @@ module _ {words : List (List ℕ)} {shelf last : SeenShelf} {program target : Li
         })
       ] in
       let named : NamesTask program status task = (tasks, faultless read.first read.free, subst (λ (s : List core.Task). Names s status task) is names) in
-      stopped_behind_set last status task read.first read.free (inr (target, last, read.loaded, inr ((costs, read.gives), inl (why, named, refl))))
+      stopped_behind_set behind_set last status task read.first read.free (inr (target, last, read.loaded, inr ((costs, read.gives), inl (why, named, refl))))
 
   -- one is
   pub choice_for : (c : Choice) → c.set ≡ set_of tasks → c.costs ≡ costs → IsBest c → IsChoiceFor program target c

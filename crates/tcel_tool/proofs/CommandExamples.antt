@@ -8,7 +8,7 @@ use Rattle.tcel_check.specs.Marks.{limit, precedes}
 use Rattle.tcel_check.specs.declared.fail.LimitKind.TheVariants.{Tasks}
 use Rattle.tcel_check.specs.declared.mark.Mark.{Mark}
 use Rattle.tcel_tool.specs.CheckCommand.{RefusesTasks}
-use Rattle.tcel_tool.specs.CommandExamples.{check_line, compile_line, format_line, late_point, long_hyper, many_cells, many_tasks, mean_line, same_priority, seventeen, sixteen, too_deep, too_many_frames, unexpected}
+use Rattle.tcel_tool.specs.CommandExamples.{check_line, compile_line, format_line, late_point, long_hyper, make_line, many_cells, many_tasks, mean_line, same_priority, seventeen, sixteen, too_deep, too_many_frames, too_many_made, unexpected}
 use Rattle.tcel_tool.specs.FaultLine.{fault_pieces}
 use Rattle.tcel_tool.specs.declared.status.Status.{Status}
 
@@ -27,6 +27,10 @@ fault_line = refl
 pub frames_line : concat (fault_pieces (mean_line (codes "10001")) too_many_frames []) ≡ codes "limit: mean frames 10001 above 10000\n"
 unfolding digits
 frames_line = refl
+
+pub made_line : concat (fault_pieces (make_line (codes "17")) too_many_made []) ≡ codes "limit: made tasks 17 above 16\n"
+unfolding digits
+made_line = refl
 
 pub limit_line : concat (fault_pieces check_line many_tasks []) ≡ codes "limit: tasks above 16 at 1:116\n"
 unfolding digits

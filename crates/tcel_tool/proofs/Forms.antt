@@ -7,11 +7,12 @@ use Rattle.std.specs.Char.{is_ascii_digit}
 use Rattle.std.specs.Prelude.{IsTrue, if◌then◌else◌, nat_eq}
 use Rattle.std.specs.Cmp.Lexicographic.{pointwise}
 use Rattle.std.specs.List.{AllByRecursion, list_all}
-use Rattle.tcel_tool.specs.CommandLine.{AreWords, fit, is_number, word_at}
+use Rattle.tcel_tool.specs.CommandLine.{AreWords, fit, is_number, is_positive, number_at, word_at}
+use Rattle.tcel_script.specs.Numbers.{magnitude}
 use Rattle.tcel_tool.specs.Commands.{HasForm, HaveNoForm, name_of}
 use Rattle.tcel_tool.specs.declared.command.Slot.{Slot}
 use Rattle.tcel_tool.specs.declared.command.Command.{Command}
-use Rattle.tcel_tool.specs.declared.command.Command.TheVariants.{Compile, Run, Format, Check, Mean, Analyse, Timeline}
+use Rattle.tcel_tool.specs.declared.command.Command.TheVariants.{Compile, Run, Format, Check, Mean, Analyse, Timeline, Fewest, Make}
 
 -- no two commands have one name
 abbrev command_named : List ℕ → Command
@@ -20,7 +21,8 @@ command_named word =
     else (if pointwise nat_eq word (name_of Run) then Run
     else (if pointwise nat_eq word (name_of Format) then Format
     else (if pointwise nat_eq word (name_of Check) then Check
-    else (if pointwise nat_eq word (name_of Mean) then Mean else (if pointwise nat_eq word (name_of Analyse) then Analyse else Timeline)))))
+    else (if pointwise nat_eq word (name_of Mean) then Mean else (if pointwise nat_eq word (name_of Analyse) then Analyse
+    else (if pointwise nat_eq word (name_of Timeline) then Timeline else (if pointwise nat_eq word (name_of Fewest) then Fewest else Make)))))))
 
 named : (command : Command) → command_named (name_of command) ≡ command
 named Compile = refl
@@ -30,6 +32,8 @@ named Check = refl
 named Mean = refl
 named Analyse = refl
 named Timeline = refl
+named Fewest = refl
+named Make = refl
 
 one_name : (a b : Command) → name_of a ≡ name_of b → a ≡ b
 one_name a b e = sym (named a) ∙ ap command_named e ∙ named b
@@ -40,8 +44,8 @@ one_form [] a b h k = absurd h
 one_form (first ∷ words) a b h k = one_name a b (sym h.0 ∙ k.0)
 
 -- words that have the form of none of these have the form of none
-pub of_none : (words : List (List ℕ)) → AllByRecursion (λ (command : Command). ¬ HasForm command words) (Compile ∷ Run ∷ Format ∷ Check ∷ Mean ∷ Analyse ∷ Timeline ∷ [])
-    → HaveNoForm words
+pub of_none : (words : List (List ℕ)) →
+    AllByRecursion (λ (command : Command). ¬ HasForm command words) (Compile ∷ Run ∷ Format ∷ Check ∷ Mean ∷ Analyse ∷ Timeline ∷ Fewest ∷ Make ∷ []) → HaveNoForm words
 of_none words none Compile = none.0
 of_none words none Run = none.1.0
 of_none words none Format = none.1.1.0
@@ -49,6 +53,8 @@ of_none words none Check = none.1.1.1.0
 of_none words none Mean = none.1.1.1.1.0
 of_none words none Analyse = none.1.1.1.1.1.0
 of_none words none Timeline = none.1.1.1.1.1.1.0
+of_none words none Fewest = none.1.1.1.1.1.1.1.0
+of_none words none Make = none.1.1.1.1.1.1.1.1.0
 
 both : (a b : Bool) → IsTrue (a && b) → IsTrue a × IsTrue b
 both true b h = (refl, h)
@@ -67,6 +73,31 @@ ticks_are_a_number words h = third_is_number (name_of Run) words h
 
 pub frames_are_a_number : (words : List (List ℕ)) → HasForm Mean words → IsTrue (is_number (word_at words 3))
 frames_are_a_number words h = third_is_number (name_of Mean) words h
+
+-- the seed and the number of tasks, which is above 0, behind the name
+seed_and_count : (name : List ℕ) (slots : List Slot) (words : List (List ℕ)) → AreWords name (Slot.Number ∷ Slot.Positive ∷ slots) words
+    → IsTrue (is_number (word_at words 1)) × IsTrue (is_positive (word_at words 2))
+seed_and_count own slots [] h = absurd h
+seed_and_count own slots (name ∷ []) h = absurd (let e = h.1 in cc)
+seed_and_count own slots (name ∷ a ∷ []) h = absurd (let e = (both (is_number a) (fit (Slot.Positive ∷ slots) []) h.1).1 in cc)
+seed_and_count own slots (name ∷ a ∷ b ∷ words) h =
+    let rest = both (is_number a) (fit (Slot.Positive ∷ slots) (b ∷ words)) h.1 in
+    (rest.0, (both (is_positive b) (fit slots words) rest.1).0)
+
+is_above : (word : List ℕ) → IsTrue (is_positive word) → IsTrue (is_number word) × (1 ≤ magnitude word)
+is_above word h =
+    let parts = both (is_number word) (nat_lt 0 (magnitude word)) h in
+    let some : nat_lt 0 (magnitude word) ≡ true = parts.1 in
+    (parts.0, grind (arith, nat_tests))
+
+pub seeds_are_numbers : (words : List (List ℕ)) → HasForm Make words → IsTrue (is_number (word_at words 1))
+seeds_are_numbers words h = (seed_and_count (name_of Make) [] words h).0
+
+pub counts_are_numbers : (words : List (List ℕ)) → HasForm Make words → IsTrue (is_number (word_at words 2))
+counts_are_numbers words h = (is_above (word_at words 2) (seed_and_count (name_of Make) [] words h).1).0
+
+pub some_are_made : (words : List (List ℕ)) → HasForm Make words → 1 ≤ number_at words 2
+some_are_made words h = (is_above (word_at words 2) (seed_and_count (name_of Make) [] words h).1).1
 
 one_way : (b : Bool) → (b ≡ false → ⊥) → b ≡ true
 one_way true h = refl

@@ -8,6 +8,8 @@ pub mod FaultLines
 pub mod Stretches
 pub mod ToldTasks
 pub mod ChoiceStages
+pub mod FewestStages
+pub mod FewestExamples
 pub mod Promise
 pub mod Reports
 pub mod ReportExamples

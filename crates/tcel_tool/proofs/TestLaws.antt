@@ -1,5 +1,5 @@
 -- What passes a test is not refused by it, and a test refuses with one status.
-use Rattle.std.proofs.Common.{◌≡◌, ℕ, ◌<◌, List, [], ◌∷◌, Contains, Some, Ok, Err, refl, sym, ap, ◌∙◌, subst, inl, inr, arith}
+use Rattle.std.proofs.Common.{◌≡◌, ℕ, List, [], length, Contains, Some, Ok, Err, refl, sym, ap, ◌∙◌, subst, inl, inr, arith}
 use Rattle.tcel_num.specs.declared.at.At.{At}
 use Rattle.tcel_grammar.proofs.OneAnswer.{not_accepted, not_shallow, one_depth, one_syntax, syntax_or_depth}
 use Rattle.tcel_grammar.proofs.OneTree.{one_tree as one_parse}
@@ -16,8 +16,10 @@ use Rattle.tcel_tree.specs.Language as trees
 use Rattle.tcel_check.specs.Checked.{set_of}
 use Rattle.tcel_check.specs.Marks.{IsFirst}
 use Rattle.tcel_core.specs.Language as core
-use Rattle.tcel_driver.proofs.OneAnswer.{made, one_refusal as one_cause}
+use Rattle.tcel_driver.proofs.Chosen.{forbidden}
+use Rattle.tcel_driver.proofs.OneAnswer.{given, made, one_refusal as one_cause}
 use Rattle.tcel_driver.specs.Choice.{IsChosen}
+use Rattle.tcel_driver.specs.Forms.{AreForms}
 use Rattle.tcel_check.specs.Rows.{marks}
 use Rattle.tcel_check.specs.declared.mark.Mark.{Mark}
 use Rattle.tcel_target.proofs.Told.{says_one}
@@ -39,7 +41,9 @@ use Rattle.tcel_script.specs.declared.fail.ScriptFail.{ScriptFail}
 use Rattle.tcel_verify.specs.Ports.{port_rows}
 use Rattle.tcel_tool.specs.CheckCommand.{IsFaultless, RefusesFaults, status_at}
 use Rattle.tcel_tool.specs.Commands.{Passes, Refuses}
+use Rattle.tcel_tool.specs.FewestCommand.{HasFewTasks, RefusesMany, many_tasks}
 use Rattle.tcel_tool.specs.SetChoice.{Choice, IsChoiceFor, RefusesChoice, RefusesSet, status_for}
+use Rattle.tcel_tool.specs.SetForms.{AreFormsFor, ForbidsSet, RefusesForms, SetForms}
 use Rattle.tcel_tool.specs.TargetText.{HasFault}
 use Rattle.tcel_tool.specs.ProgramText.{IsDeep, IsGrammatical, IsLexical, IsProgramText, RefusesText}
 use Rattle.tcel_tool.specs.RunCommand.{IsImageIn, RefusesImage, Spells}
@@ -224,6 +228,43 @@ one_choice_refusal program target a b one other =
     (one_program program one.tasks other.tasks one.faultless.program other.faultless.program) (one_costs target one.costs other.costs one.gives.text other.gives.text) one.refused in
     one_set_refusal (set_of other.tasks) other.costs a b refused other.refused
 
+-- ---- forms
+
+-- where a form is beyond a limit, no choice is made
+no_choice : (program target : List ℕ) (status : Status) → RefusesForms program target status → RefusesChoice program target status
+no_choice program target status not_given =
+    let refused = not_given.refused in
+    record {
+      tasks = not_given.tasks;
+      faultless = not_given.faultless;
+      costs = not_given.costs;
+      gives = not_given.gives;
+      refused = (refused.0, refused.1, refused.2, forbidden (set_of not_given.tasks) not_given.costs refused.0 refused.3);
+    }
+
+-- what forbids the forms of one program forbids those of the other's set
+same_forbidden : (tasks others : List trees.Task) (costs other : Costs) (status : Status) → tasks ≡ others → costs ≡ other
+    → ForbidsSet (set_of tasks) costs status → ForbidsSet (set_of others) other status
+same_forbidden tasks others costs other status same equal h =
+    subst (λ (k : Costs). ForbidsSet (set_of others) k status) equal (subst (λ (ts : List trees.Task). ForbidsSet (set_of ts) costs status) same h)
+
+forms_or_refused : (program target : List ℕ) (f : SetForms) (status : Status) → AreFormsFor program target f → RefusesForms program target status → ⊥
+forms_or_refused program target f status are not_given =
+    let forbids = same_forbidden not_given.tasks are.tasks not_given.costs f.costs status
+    (one_program program not_given.tasks are.tasks not_given.faultless.program are.faultless.program)
+    (one_costs target not_given.costs f.costs not_given.gives.text are.gives.text) not_given.refused in
+    let forms = subst (λ (set : List core.Task). AreForms set f.costs f.parts f.whole f.sliced f.hyper) are.is are.are in
+    forbids.1 (given (set_of are.tasks) f.costs f.parts f.whole f.sliced f.hyper forbids.0 forms forbids.3)
+
+few_or_many : (text : List ℕ) (tasks : List trees.Task) (status : Status) → HasFewTasks text tasks → RefusesMany text status → ⊥
+few_or_many text tasks status few (others, faultless, (is, many)) =
+    let same = ap (λ (ts : List trees.Task). length (set_of ts)) (one_program text others tasks faultless.program few.faultless.program) in
+    omega (arith, few.few, many, same)
+
+one_count : (text : List ℕ) (a b : Status) → RefusesMany text a → RefusesMany text b → a ≡ b
+one_count text a b (tasks, faultless, (is, many)) (others, faultless', (is', many')) =
+    is ∙ ap (λ (ts : List trees.Task). many_tasks (set_of ts)) (one_program text tasks others faultless.program faultless'.program) ∙ sym is'
+
 -- ---- scripts for checked programs
 
 inputs_or_refused : (text lines : List ℕ) (tasks : List trees.Task) (streams : Streams) (status : Status) → Means text lines tasks streams → RefusesInputs text lines status → ⊥
@@ -249,6 +290,8 @@ passes_or_refuses tests.script call status p h =
 passes_or_refuses tests.program call status p h = text_or_fault (call.read 1) p.0 status p.1 h
 passes_or_refuses tests.faultless call status p h = faultless_or_fault (call.read 1) p.0 status p.1 h
 passes_or_refuses tests.inputs call status p h = inputs_or_refused (call.read 1) (call.read 2) p.0 p.1 status p.2 h
+passes_or_refuses tests.few call status p h = few_or_many (call.read 1) p.0 status p.1 h
+passes_or_refuses tests.forms call status p h = forms_or_refused (call.read 1) (call.read 2) p.0 status p.1 h
 
 pub one_refusal : (what : Test) (call : Call) (a b : Status) → Refuses what call a → Refuses what call b → a ≡ b
 one_refusal tests.target call a b h k = h.1 ∙ ap statuses.Target (one_target_fault (call.read 2) h.0 k.0 h.2 k.2) ∙ sym k.1
@@ -260,3 +303,6 @@ one_refusal tests.script call a b h k =
 one_refusal tests.program call a b h k = one_text_fault (call.read 1) a b h k
 one_refusal tests.faultless call a b h k = one_program_fault (call.read 1) a b h k
 one_refusal tests.inputs call a b h k = one_input_fault (call.read 1) (call.read 2) a b h k
+one_refusal tests.few call a b h k = one_count (call.read 1) a b h k
+one_refusal tests.forms call a b h k =
+    one_choice_refusal (call.read 1) (call.read 2) a b (no_choice (call.read 1) (call.read 2) a h) (no_choice (call.read 1) (call.read 2) b k)

@@ -5,7 +5,7 @@ use Rattle.tcel_check.specs.declared.fail.CheckKind.TheVariants.{SamePriority}
 use Rattle.tcel_check.specs.declared.fail.LimitKind.TheVariants.{Tasks}
 use Rattle.tcel_num.specs.Plan.{within}
 use Rattle.tcel_tree.specs.Language.{Task}
-use Rattle.tcel_tool.specs.declared.status.CountKind.TheVariants.{Ticks, MeanFrames}
+use Rattle.tcel_tool.specs.declared.status.CountKind.TheVariants.{Ticks, MadeTasks, MeanFrames}
 use Rattle.tcel_tool.specs.declared.status.LimitFault.TheVariants as limits
 use Rattle.tcel_tool.specs.declared.status.ProgramKind.TheVariants.{Check, Unexpected}
 use Rattle.tcel_tool.specs.declared.status.Status.{Status}
@@ -23,18 +23,25 @@ mean_line frames = codes "mean" ∷ codes "a" ∷ codes "b" ∷ frames ∷ []
 abbrev pub timeline_line : List ℕ → List (List ℕ)
 timeline_line ticks = codes "timeline" ∷ codes "a" ∷ codes "b" ∷ ticks ∷ []
 
--- `compile a b`, `analyse a b`, `format a`, `check a`
+-- `compile a b`, `analyse a b`, `fewest a b`, `format a`, `check a`
 abbrev pub compile_line : List (List ℕ)
 compile_line = codes "compile" ∷ codes "a" ∷ codes "b" ∷ []
 
 abbrev pub analyse_line : List (List ℕ)
 analyse_line = codes "analyse" ∷ codes "a" ∷ codes "b" ∷ []
 
+abbrev pub fewest_line : List (List ℕ)
+fewest_line = codes "fewest" ∷ codes "a" ∷ codes "b" ∷ []
+
 abbrev pub format_line : List (List ℕ)
 format_line = codes "format" ∷ codes "a" ∷ []
 
 abbrev pub check_line : List (List ℕ)
 check_line = codes "check" ∷ codes "a" ∷ []
+
+-- `make 1`, and the tasks
+abbrev pub make_line : List ℕ → List (List ℕ)
+make_line tasks = codes "make" ∷ codes "1" ∷ tasks ∷ []
 
 -- no bytes are told
 abbrev pub nothing_told : List ℕ → Option (List ℕ)
@@ -47,6 +54,10 @@ too_many = Limit (limits.Count Ticks 10000001)
 -- one frame more than there may be
 abbrev pub too_many_frames : Status
 too_many_frames = Limit (limits.Count MeanFrames 10001)
+
+-- one task more than may be made
+abbrev pub too_many_made : Status
+too_many_made = Limit (limits.Count MadeTasks 17)
 
 -- a token that begins no program goes on
 abbrev pub unexpected : Status

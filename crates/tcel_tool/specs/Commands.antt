@@ -8,18 +8,21 @@ use Rattle.tcel_tool.specs.AnalyseCommand as analyse
 use Rattle.tcel_tool.specs.CheckCommand as check
 use Rattle.tcel_tool.specs.CommandLine.{AreWords}
 use Rattle.tcel_tool.specs.CompileCommand as compile
+use Rattle.tcel_tool.specs.FewestCommand as fewest
 use Rattle.tcel_tool.specs.FormatCommand as format
+use Rattle.tcel_tool.specs.MakeCommand as make
 use Rattle.tcel_tool.specs.MeanCommand as mean
 use Rattle.tcel_tool.specs.ProgramText.{IsProgramText, RefusesText}
 use Rattle.tcel_tool.specs.RunCommand as run
 use Rattle.tcel_tool.specs.SetChoice.{Choice, IsChoiceFor, NamesTask, RefusesChoice}
+use Rattle.tcel_tool.specs.SetForms.{AreFormsFor, RefusesForms, SetForms}
 use Rattle.tcel_tool.specs.Stage.{Call, Stage}
 use Rattle.tcel_tool.specs.TargetText.{GivesCosts, RefusesTarget}
 use Rattle.tcel_tool.specs.Test.{Test}
 use Rattle.tcel_tool.specs.Test as tests
 use Rattle.tcel_tool.specs.TimelineCommand as timeline
 use Rattle.tcel_tool.specs.declared.command.Command.{Command}
-use Rattle.tcel_tool.specs.declared.command.Command.TheVariants.{Compile, Run, Format, Check, Mean, Analyse, Timeline}
+use Rattle.tcel_tool.specs.declared.command.Command.TheVariants.{Compile, Run, Format, Check, Mean, Analyse, Timeline, Fewest, Make}
 use Rattle.tcel_tool.specs.declared.command.Slot.{Slot}
 use Rattle.tcel_tool.specs.declared.status.Status.{Status}
 
@@ -31,6 +34,8 @@ name_of Check = check.name
 name_of Mean = mean.name
 name_of Analyse = analyse.name
 name_of Timeline = timeline.name
+name_of Fewest = fewest.name
+name_of Make = make.name
 
 abbrev pub slots_of : Command → List Slot
 slots_of Compile = compile.slots
@@ -40,6 +45,8 @@ slots_of Check = check.slots
 slots_of Mean = mean.slots
 slots_of Analyse = analyse.slots
 slots_of Timeline = timeline.slots
+slots_of Fewest = fewest.slots
+slots_of Make = make.slots
 
 abbrev pub stages_of : Command → List Stage
 stages_of Compile = compile.stages
@@ -49,6 +56,8 @@ stages_of Check = check.stages
 stages_of Mean = mean.stages
 stages_of Analyse = analyse.stages
 stages_of Timeline = timeline.stages
+stages_of Fewest = fewest.stages
+stages_of Make = make.stages
 
 -- what a command writes to its output, in pieces, each by one put
 abbrev pub IsText : Command → Call → List (List ℕ) → Type 0
@@ -59,6 +68,8 @@ IsText Check = check.IsText
 IsText Mean = mean.IsText
 IsText Analyse = analyse.IsText
 IsText Timeline = timeline.IsText
+IsText Fewest = fewest.IsText
+IsText Make = make.IsText
 
 -- what passes a test
 abbrev pub Passes : Test → Call → Type 0
@@ -69,6 +80,8 @@ Passes tests.script call = (given : Image) × (streams : Streams) × run.Runs (c
 Passes tests.program call = (tasks : List Task) × IsProgramText (call.read 1) tasks
 Passes tests.faultless call = (tasks : List Task) × check.IsFaultless (call.read 1) tasks
 Passes tests.inputs call = (tasks : List Task) × (streams : Streams) × mean.Means (call.read 1) (call.read 2) tasks streams
+Passes tests.few call = (tasks : List Task) × fewest.HasFewTasks (call.read 1) tasks
+Passes tests.forms call = (forms : SetForms) × AreFormsFor (call.read 1) (call.read 2) forms
 
 -- what a test refuses, with this status
 abbrev pub Refuses : Test → Call → Status → Type 0
@@ -79,10 +92,13 @@ Refuses tests.script call = run.RefusesScript (call.read 1) (call.read 2)
 Refuses tests.program call = RefusesText (call.read 1)
 Refuses tests.faultless call = check.RefusesFaults (call.read 1)
 Refuses tests.inputs call = mean.RefusesInputs (call.read 1) (call.read 2)
+Refuses tests.few call = fewest.RefusesMany (call.read 1)
+Refuses tests.forms call = RefusesForms (call.read 1) (call.read 2)
 
 -- where the status of a test's refusal tells a task, this is its name
 abbrev pub Names : Test → Call → Status → Option (List ℕ) → Type 0
 Names tests.choice call status task = NamesTask (call.read 1) status task
+Names tests.forms call status task = NamesTask (call.read 1) status task
 Names _ call status task = Unit {0}
 
 -- the words have the form of this command

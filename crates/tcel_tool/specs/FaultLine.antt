@@ -23,7 +23,7 @@ use Rattle.tcel_tool.specs.declared.status.Status.TheVariants as statuses
 use Rattle.tcel_tool.specs.declared.status.LimitFault.{LimitFault}
 use Rattle.tcel_tool.specs.declared.status.LimitFault.TheVariants as limits
 use Rattle.tcel_tool.specs.declared.status.CountKind.{CountKind}
-use Rattle.tcel_tool.specs.declared.status.CountKind.TheVariants.{Ticks, MeanFrames}
+use Rattle.tcel_tool.specs.declared.status.CountKind.TheVariants.{Ticks, MeanFrames, FewestTasks, MadeTasks}
 use Rattle.tcel_tool.specs.declared.status.ProgramKind.{ProgramKind}
 use Rattle.tcel_tool.specs.declared.status.ProgramKind.TheVariants as kinds
 use Rattle.tcel_tool.specs.CommandLine.{word_at}
@@ -36,10 +36,12 @@ limit_text placed.Words = codes "limit: words above 4096 at "
 limit_text placed.Nodes = codes "limit: nodes above 4000 at "
 limit_text placed.Windows = codes "limit: windows above 31 at "
 
--- a number on the command line that is above the greatest one allowed
+-- a number that is above the greatest one allowed
 abbrev pub count_pieces : CountKind → ℕ → List (List ℕ)
 count_pieces Ticks value = codes "limit: ticks " ∷ decimal value ∷ codes " above 10000000\n" ∷ []
 count_pieces MeanFrames value = codes "limit: mean frames " ∷ decimal value ∷ codes " above 10000\n" ∷ []
+count_pieces MadeTasks value = codes "limit: made tasks " ∷ decimal value ∷ codes " above 16\n" ∷ []
+count_pieces FewestTasks value = codes "limit: fewest tasks " ∷ decimal value ∷ codes " above 12\n" ∷ []
 
 abbrev pub limit_pieces : List (List ℕ) → LimitFault → List ℕ → List (List ℕ)
 limit_pieces words (limits.Bytes word limit) task = codes "limit: bytes of " ∷ word_at words word ∷ codes " above " ∷ decimal limit ∷ codes "\n" ∷ []

@@ -8,11 +8,17 @@ pub mod Commands
 pub mod CompileCommand
 pub mod ExitStatus
 pub mod FaultLine
+pub mod FewestCommand
+pub mod FewestExamples
+pub mod FewestText
 pub mod FormatCommand
+pub mod FormedSet
 pub mod Headline
 pub mod SetChoice
+pub mod SetForms
 pub mod TargetText
 pub mod Lines
+pub mod MakeCommand
 pub mod MeanCommand
 pub mod MeanExamples
 pub mod MeanText

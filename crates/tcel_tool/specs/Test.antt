@@ -8,3 +8,5 @@ pub data Test : Type 0 where
   program : Test
   faultless : Test
   inputs : Test
+  few : Test
+  forms : Test

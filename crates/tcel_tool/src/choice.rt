@@ -23,7 +23,7 @@ use tcel_num::Name;
 use tcel_target::{Costs, TargetFail, read_target};
 
 /// The most bytes of a target.
-const TARGET_LIMIT: usize = 65_536;
+pub(crate) const TARGET_LIMIT: usize = 65_536;
 
 /// The set of a program, the costs of a target, and how many of the lowest tasks are sliced.
 #[derive(Debug, Drop)]
@@ -56,7 +56,7 @@ pub(crate) fn choose_for<H: Shelf>(
 }
 
 /// The costs of a target.
-fn costs_of(alloc: Global, text: &[u8]) -> Result<Costs, Status>
+pub(crate) fn costs_of(alloc: Global, text: &[u8]) -> Result<Costs, Status>
     ensures gives { IfOk result (GivesCosts text.now) }
     ensures refusal { IfErr result (OrMemory (RefusesTarget text.now)) }
 {
@@ -91,7 +91,7 @@ fn choose(
 }
 
 /// The status for a cause.
-fn status_for(cause: &Refused) -> Status
+pub(crate) fn status_for(cause: &Refused) -> Status
     ensures { result ≡ status_for cause.now }
 {
     match cause {
@@ -115,7 +115,7 @@ fn status_for(cause: &Refused) -> Status
 }
 
 /// The name of the task that a cause tells.
-fn told_name(set: &Set, cause: &Refused) -> Option<Name>
+pub(crate) fn told_name(set: &Set, cause: &Refused) -> Option<Name>
     ensures { IfSome (told_task (status_for cause.now)) (λ number. result ≡ name_at (plain_set set.now) number) }
 {
     match cause {
@@ -128,7 +128,7 @@ fn told_name(set: &Set, cause: &Refused) -> Option<Name>
 }
 
 /// The name of the task with this number.
-fn name_at(set: &Set, number: usize) -> Option<Name>
+pub(crate) fn name_at(set: &Set, number: usize) -> Option<Name>
     ensures { result ≡ name_at (plain_set set.now) number }
 {
     match set.tasks.as_slice().get(number) {

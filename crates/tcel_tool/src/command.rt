@@ -4,6 +4,8 @@ ghost use Rattle.std.specs.List.{AllByRecursion, list_all};
 ghost use Rattle.tcel_tool.specs.CommandLine.{fit, fits, is_number};
 ghost use Rattle.tcel_tool.specs.Commands.{HasForm, HaveNoForm, name_of, slots_of};
 
+use crate::stages::number_of;
+
 /// The commands (docs/commands.md).
 #[derive(Clone, Copy, Debug, PartialEq, Eq)]
 pub enum Command {
@@ -14,6 +16,8 @@ pub enum Command {
     Mean,
     Analyse,
     Timeline,
+    Fewest,
+    Make,
 }
 
 /// What a word behind a command's name is: the name of a file, or 1 to 18 decimal digits.
@@ -21,9 +25,11 @@ pub enum Command {
 pub enum Slot {
     File,
     Number,
+    /// A number above 0.
+    Positive,
 }
 
-const COMMANDS: [Command; 7] = [
+const COMMANDS: [Command; 9] = [
     Command::Compile,
     Command::Run,
     Command::Format,
@@ -31,6 +37,8 @@ const COMMANDS: [Command; 7] = [
     Command::Mean,
     Command::Analyse,
     Command::Timeline,
+    Command::Fewest,
+    Command::Make,
 ];
 
 const MOST_DIGITS: usize = 18;
@@ -47,6 +55,8 @@ impl Command {
             Command::Mean => "mean",
             Command::Analyse => "analyse",
             Command::Timeline => "timeline",
+            Command::Fewest => "fewest",
+            Command::Make => "make",
         }
     }
 
@@ -54,11 +64,12 @@ impl Command {
         ensures { result.now ≡ slots_of self }
     {
         match self {
-            Command::Compile | Command::Analyse => &[Slot::File, Slot::File],
+            Command::Compile | Command::Analyse | Command::Fewest => &[Slot::File, Slot::File],
             Command::Run | Command::Mean | Command::Timeline => {
                 &[Slot::File, Slot::File, Slot::Number]
             }
             Command::Format | Command::Check => &[Slot::File],
+            Command::Make => &[Slot::Number, Slot::Positive],
         }
     }
 }
@@ -117,6 +128,7 @@ fn fits(slot: Slot, word: &[u8]) -> bool
     match slot {
         Slot::File => true,
         Slot::Number => is_number(word),
+        Slot::Positive => is_number(word) && number_of(word) > 0,
     }
 }
 

@@ -1,20 +1,23 @@
 ghost use Rattle.std.specs.Prelude.{◌≡◌, ◌≢◌, ◌≤◌, ℕ, List, [], ◌∷◌, codes, false, true};
+ghost use Rattle.tcel_core.specs.Examples.{counter};
 ghost use Rattle.tcel_tool.specs.CheckCommand.{RefusesTasks};
 ghost use Rattle.std.specs.List.{concat};
 ghost use Rattle.tcel_num.specs.Plan.{Plan};
 ghost use Rattle.tcel_tool.specs.Answer.{IsDecided};
 ghost use Rattle.tcel_tool.specs.Report.{is_sliced};
 ghost use Rattle.tcel_tool.specs.ReportExamples.{last_sliced, plan_text, wanted_text};
-ghost use Rattle.tcel_tool.specs.CommandExamples.{analyse_line, check_line, compile_line, format_line, late_point, long_hyper};
-ghost use Rattle.tcel_tool.specs.CommandExamples.{many_cells, many_tasks, mean_line, nothing_told, timeline_line};
-ghost use Rattle.tcel_tool.specs.CommandExamples.{run_line, same_priority, seventeen, sixteen, too_deep, too_many, too_many_frames, unexpected};
+ghost use Rattle.tcel_tool.specs.CommandExamples.{analyse_line, check_line, compile_line, fewest_line, format_line, late_point, long_hyper};
+ghost use Rattle.tcel_tool.specs.CommandExamples.{make_line, many_cells, many_tasks, mean_line, nothing_told, too_many_made};
+ghost use Rattle.tcel_tool.specs.CommandExamples.{run_line, same_priority, seventeen, sixteen, timeline_line, too_deep, too_many, too_many_frames, unexpected};
 ghost use Rattle.tcel_tool.specs.MeanExamples.{alarm_pieces, alarm_text, both_pieces, both_text};
 ghost use Rattle.tcel_tool.specs.Commands.{HasForm, HaveNoForm};
 ghost use Rattle.tcel_tool.specs.FaultLine.{fault_pieces};
 ghost use Rattle.tcel_tool.specs.SpanExamples.{full, full_idle, full_short, full_spans, full_split, idle, idle_lines, idle_spans};
 ghost use Rattle.tcel_tool.specs.SpanExamples.{preempted, preempted_lines, preempted_spans, set};
 ghost use Rattle.tcel_tool.specs.Spans.{AreLines, AreSpans};
-ghost use Rattle.tcel_tool.specs.declared.command.Command.TheVariants.{Analyse, Check, Compile, Format, Mean, Run, Timeline};
+ghost use Rattle.tcel_tool.specs.FewestCommand.{IsMany};
+ghost use Rattle.tcel_tool.specs.FewestExamples.{full_text, full_wanted, lower_text, lower_wanted, none_text, none_wanted, thirteen, twelve};
+ghost use Rattle.tcel_tool.specs.declared.command.Command.TheVariants.{Analyse, Check, Compile, Fewest, Format, Make, Mean, Run, Timeline};
 ghost use Rattle.tcel_tool.specs.declared.spans.Span.{Span};
 ghost use Rattle.tcel_tool.specs.declared.status.Status.{Status};
 
@@ -27,6 +30,9 @@ pub fn command_examples()
     ensures mean { HasForm Mean (mean_line (codes "2")) }
     ensures analyse { HasForm Analyse analyse_line }
     ensures timeline { HasForm Timeline (timeline_line (codes "6")) }
+    ensures fewest { HasForm Fewest fewest_line }
+    ensures make { HasForm Make (make_line (codes "016")) }
+    ensures no_tasks { HaveNoForm (make_line (codes "00")) }
     ensures other_command { HasForm Compile format_line → ⊥ }
     ensures eighteen_digits { HasForm Run (run_line (codes "999999999999999999")) }
     ensures nineteen_digits { HaveNoForm (run_line (codes "1000000000000000000")) }
@@ -48,6 +54,9 @@ pub fn command_examples()
     ensures limit { concat (fault_pieces check_line many_tasks []) ≡ codes "limit: tasks above 16 at 1:116\n" }
     ensures most_frames { IsDecided Mean nothing_told (mean_line (codes "10000")) too_many_frames → ⊥ }
     ensures too_many_frames { IsDecided Mean nothing_told (mean_line (codes "10001")) too_many_frames }
+    ensures most_made { IsDecided Make nothing_told (make_line (codes "16")) too_many_made → ⊥ }
+    ensures too_many_made { IsDecided Make nothing_told (make_line (codes "17")) too_many_made }
+    ensures made { concat (fault_pieces (make_line (codes "17")) too_many_made []) ≡ codes "limit: made tasks 17 above 16\n" }
     ensures frames { concat (fault_pieces (mean_line (codes "10001")) too_many_frames []) ≡ codes "limit: mean frames 10001 above 10000\n" }
 {}
 
@@ -90,4 +99,14 @@ pub fn timeline_examples()
     ensures preempted_lines { AreLines set preempted 0 16 preempted_lines }
     ensures idle_lines { AreLines set idle 0 9 idle_lines }
     ensures no_lines { AreLines set idle 0 0 [] }
+{}
+
+/// What `fewest` writes for a task and one above it: the lower one is sliced, both are, or nothing fits; and its limit (docs/formats.md).
+pub fn fewest_examples()
+    ensures lower { lower_text ≡ lower_wanted }
+    ensures full { full_text ≡ full_wanted }
+    ensures none { none_text ≡ none_wanted }
+    ensures twelve { IsMany twelve thirteen → ⊥ }
+    ensures one_more { IsMany (counter ∷ twelve) thirteen }
+    ensures line { concat (fault_pieces fewest_line thirteen []) ≡ codes "limit: fewest tasks 13 above 12\n" }
 {}

@@ -156,6 +156,8 @@ fn put_count<K: Sink>(kind: CountKind, value: u64, err: &mut K)
     match kind {
         CountKind::Ticks => put_number(b"limit: ticks ", value, b" above 10000000\n", err),
         CountKind::MeanFrames => put_number(b"limit: mean frames ", value, b" above 10000\n", err),
+        CountKind::MadeTasks => put_number(b"limit: made tasks ", value, b" above 16\n", err),
+        CountKind::FewestTasks => put_number(b"limit: fewest tasks ", value, b" above 12\n", err),
     }
 }
 

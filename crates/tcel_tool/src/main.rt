@@ -23,10 +23,18 @@ mod compile;
 mod compile_tests;
 mod examples;
 mod fault_line;
+mod fewest;
+#[cfg(test)]
+mod fewest_tests;
+mod fewest_text;
 mod format;
 #[cfg(test)]
 mod format_tests;
+mod formed;
 mod headline;
+mod make;
+#[cfg(test)]
+mod make_tests;
 mod mean;
 #[cfg(test)]
 mod mean_tests;

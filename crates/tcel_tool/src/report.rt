@@ -128,7 +128,7 @@ fn put_point(out: &mut Vec<u8>, point: Point, worst: Worst) -> Result<(), NoMemo
     put(out, b"\n")
 }
 
-fn put_name(out: &mut Vec<u8>, name: PointName) -> Result<(), NoMemory>
+pub(crate) fn put_name(out: &mut Vec<u8>, name: PointName) -> Result<(), NoMemory>
     ensures { OnOk result (out.new.items ≡ out.old.items ++ (point_word (name_of name) ++ point_number (name_of name))) }
 {
     match name {
@@ -139,7 +139,7 @@ fn put_name(out: &mut Vec<u8>, name: PointName) -> Result<(), NoMemory>
 }
 
 /// A word and a number.
-fn put_part(out: &mut Vec<u8>, word: &[u8], number: u64) -> Result<(), NoMemory>
+pub(crate) fn put_part(out: &mut Vec<u8>, word: &[u8], number: u64) -> Result<(), NoMemory>
     ensures { OnOk result (out.new.items ≡ out.old.items ++ part_text word.now number) }
 {
     put(out, word)?;

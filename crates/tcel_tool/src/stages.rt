@@ -27,7 +27,7 @@ pub(crate) fn load<H: Shelf>(
     }
 }
 
-/// The number that this word writes.
+/// The number that this word writes, up to the greatest one allowed.
 pub(crate) fn number_up_to(
     words: &[String],
     word: usize,
@@ -39,15 +39,23 @@ pub(crate) fn number_up_to(
     ensures few { IfOk result (λ number. number_at (map string_bytes words.now) word ≤ most) }
     ensures above { IfErr result (IsAbove (map string_bytes words.now) kind word most) }
 {
-    let value = number_of(word_at(words, word).as_bytes());
+    let value = number_at(words, word);
     if value > most {
         return Err(Status::Limit(LimitFault::Count { kind, value }));
     }
     Ok(value)
 }
 
+/// The number that this word writes, whatever it is.
+pub(crate) fn number_at(words: &[String], word: usize) -> u64
+    requires { IsTrue (is_number (word_at (map string_bytes words.now) word)) }
+    ensures { result ≡ number_at (map string_bytes words.now) word }
+{
+    number_of(word_at(words, word).as_bytes())
+}
+
 /// The number that digits write.
-fn number_of(word: &[u8]) -> u64
+pub(crate) fn number_of(word: &[u8]) -> u64
     requires { IsTrue (is_number word.now) }
     ensures { result ≡ magnitude word.now }
 {

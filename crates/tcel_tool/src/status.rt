@@ -58,7 +58,7 @@ pub enum ProgramKind {
 pub enum LimitFault {
     /// The file of this word has more bytes than the limit.
     Bytes { word: usize, limit: usize },
-    /// A number on the command line is above the greatest one allowed.
+    /// A number is above the greatest one allowed.
     Count { kind: CountKind, value: u64 },
     /// The 33rd unclosed bracket of a program is here.
     Nesting { at: At },
@@ -76,11 +76,15 @@ pub enum LimitFault {
     Frames { frames: u64 },
 }
 
-/// What a number on the command line counts.
+/// What a number counts: one of the command line, or the tasks of a program.
 #[derive(Clone, Copy, Debug, PartialEq, Eq)]
 pub enum CountKind {
     Ticks,
     MeanFrames,
+    /// The tasks of a made program.
+    MadeTasks,
+    /// The tasks of a program of which the fewest sliced ones are asked for.
+    FewestTasks,
 }
 
 impl Status {

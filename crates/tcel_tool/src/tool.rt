@@ -13,7 +13,9 @@ use crate::check::check;
 use crate::command::{Command, command_of};
 use crate::compile::compile;
 use crate::fault_line::put_fault_line;
+use crate::fewest::fewest;
 use crate::format::format;
+use crate::make::make;
 use crate::mean::mean;
 use crate::run::run;
 use crate::status::Status;
@@ -57,7 +59,7 @@ pub fn tcel<H: Shelf, K: Sink>(
 }
 
 /// The name of a task, or nothing where there is none.
-fn name_bytes(task: &Option<Name>) -> &[u8]
+pub(crate) fn name_bytes(task: &Option<Name>) -> &[u8]
     ensures { result.now ≡ unwrap_or task.now [] }
 {
     match task {
@@ -113,5 +115,7 @@ fn body<H: Shelf, K: Sink>(
         Command::Mean => mean(alloc, words, shelf, out),
         Command::Analyse => analyse(alloc, words, shelf, out, task),
         Command::Timeline => timeline(alloc, words, shelf, out, task),
+        Command::Fewest => fewest(alloc, words, shelf, out, task),
+        Command::Make => make(alloc, words, out),
     }
 }

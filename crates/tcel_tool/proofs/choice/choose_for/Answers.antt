@@ -1,14 +1,13 @@
 use Rattle.std.proofs.Common.{inl, inr, refl, subst}
 use Rattle.std.specs.Prelude.{map, string_bytes}
 use Rattle.tcel_core.specs.Plain.{plain_set}
-use Rattle.tcel_tree.specs.Plain.{plain_program}
 use Rattle.tcel_tool.specs.Answer.{OrMemory}
 use Rattle.tcel_tool.specs.Chosen.{plain_choice}
 use Rattle.tcel_tool.specs.ProgramText.{RefusesText}
 use Rattle.tcel_tool.specs.SetChoice.{IsBest}
 use Rattle.tcel_tool.specs.declared.choice.ChosenSet.{ChosenSet}
 use Rattle.tcel_tool.specs.TargetText.{RefusesTarget}
-use Rattle.tcel_tool.proofs.ChoiceStages.{at_error, choice_for, faulty, passed_all, read_both, read_program, stopped_at_choice, stopped_behind_program, stopped_behind_set, with_both}
+use Rattle.tcel_tool.proofs.ChoiceStages.{at_error, behind_set, choice_for, faulty, passed_all, read_both, read_program, stopped_at_choice, stopped_behind_program, stopped_behind_set, with_both}
 use Rattle.tcel_tool.proofs.Checkable.{text_is_checkable}
 use Rattle.tcel_tool.proofs.choice.choose_for.Goals as goal
 
@@ -33,14 +32,14 @@ returns-in_err-set-clause-stopped g c =
     let read = read_program c.deref.result.now c.in_ok-text.ensures.loaded c.deref.ensures.value c.in_ok-program.ensures.program in
     let exit = c.from_residual-in_err-set in
     let given = c.in_err-set.field-0.0 in
-    at_error _ exit.result given exit.ensures.1 (stopped_behind_program (g.H.Shelf.seen c.load.new.shelf) given c.args.task.now read (inl (faulty read given c.in_err-set.ensures.refusal, tt, refl)))
+    at_error _ exit.result given exit.ensures.1 (stopped_behind_program behind_set (g.H.Shelf.seen c.load.new.shelf) given c.args.task.now read (inl (faulty read given c.in_err-set.ensures.refusal, tt, refl)))
 
 pub returns-in_err-lines-clause-stopped : goal.returns-in_err-lines-clause-stopped
 returns-in_err-lines-clause-stopped g c =
     let read = read_program c.deref.result.now c.in_ok-text.ensures.loaded c.deref.ensures.value c.in_ok-program.ensures.program in
     let exit = c.from_residual-in_err-lines in
     at_error _ exit.result c.in_err-lines.field-0.0 exit.ensures.1
-    (stopped_behind_set (g.H.Shelf.seen c.load-2.new.shelf) c.in_err-lines.field-0.0 c.args.task.now read c.in_ok-set.ensures.free (inl c.in_err-lines.ensures.stopped))
+    (stopped_behind_set behind_set (g.H.Shelf.seen c.load-2.new.shelf) c.in_err-lines.field-0.0 c.args.task.now read c.in_ok-set.ensures.free (inl c.in_err-lines.ensures.stopped))
 
 pub returns-in_err-costs-clause-stopped : goal.returns-in_err-costs-clause-stopped
 returns-in_err-costs-clause-stopped g c =
@@ -49,7 +48,7 @@ returns-in_err-costs-clause-stopped g c =
     let given = c.in_err-costs.field-0.0 in
     let cause = subst (λ t. OrMemory (RefusesTarget t) given) c.deref-2.ensures.value c.in_err-costs.ensures.refusal in
     at_error _ exit.result given exit.ensures.1
-    (stopped_behind_set (g.H.Shelf.seen c.load-2.new.shelf) given c.args.task.now read c.in_ok-set.ensures.free
+    (stopped_behind_set behind_set (g.H.Shelf.seen c.load-2.new.shelf) given c.args.task.now read c.in_ok-set.ensures.free
     (inr (c.in_ok-lines.lines.items, g.H.Shelf.seen c.load-2.new.shelf, c.in_ok-lines.ensures.loaded, inl (cause, tt, refl))))
 
 pub returns-in_err-choice-clause-stopped : goal.returns-in_err-choice-clause-stopped

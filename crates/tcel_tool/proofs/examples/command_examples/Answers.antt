@@ -1,4 +1,4 @@
-use Rattle.tcel_tool.proofs.CommandExamples.{cells_line, deep_line, fault_line, frames_line, late_line, limit_line, long_line, unexpected_line}
+use Rattle.tcel_tool.proofs.CommandExamples.{cells_line, deep_line, fault_line, frames_line, late_line, limit_line, long_line, made_line, unexpected_line}
 use Rattle.tcel_tool.proofs.examples.command_examples.Goals as goal
 
 pub returns-clause-line : goal.returns-clause-line
@@ -21,6 +21,9 @@ returns-clause-cells c = cells_line
 
 pub returns-clause-long : goal.returns-clause-long
 returns-clause-long c = long_line
+
+pub returns-clause-made : goal.returns-clause-made
+returns-clause-made c = made_line
 
 pub returns-clause-frames : goal.returns-clause-frames
 returns-clause-frames c = frames_line

@@ -5,3 +5,9 @@ returns-in-Ticks g c = rw c.in-Ticks.is c.put_number.ensures
 
 pub returns-in-MeanFrames : goal.returns-in-MeanFrames
 returns-in-MeanFrames g c = rw c.in-MeanFrames.is c.put_number-in-MeanFrames.ensures
+
+pub returns-in-MadeTasks : goal.returns-in-MadeTasks
+returns-in-MadeTasks g c = rw c.in-MadeTasks.is c.put_number-in-MadeTasks.ensures
+
+pub returns-in-FewestTasks : goal.returns-in-FewestTasks
+returns-in-FewestTasks g c = rw c.in-FewestTasks.is c.put_number-in-FewestTasks.ensures

@@ -20,3 +20,9 @@ returns-in-Analyse-clause-goes g c = rw c.in-Analyse.is c.analyse.ensures.goes
 
 pub returns-in-Timeline-clause-goes : goal.returns-in-Timeline-clause-goes
 returns-in-Timeline-clause-goes g c = rw c.in-Timeline.is c.timeline.ensures.goes
+
+pub returns-in-Fewest-clause-goes : goal.returns-in-Fewest-clause-goes
+returns-in-Fewest-clause-goes g c = rw c.in-Fewest.is c.fewest.ensures.goes
+
+pub returns-in-Make-clause-goes : goal.returns-in-Make-clause-goes
+returns-in-Make-clause-goes g c = rw (c.in-Make.is, c.requires.task) (c.make.ensures.goes (g.H.Shelf.seen c.args.shelf.now))
