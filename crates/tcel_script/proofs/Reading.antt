@@ -1,33 +1,18 @@
 -- A whole script, line after line.
-use Rattle.std.proofs.Common.{◌≡◌, ℕ, zero, suc, ◌+◌, ◌-◌, ◌<◌, ◌≤◌, ℤ, List, [], ◌∷◌, map, length, take, drop, get_or, Option, Some, None, Ok, Err, refl, sym, ap, ◌∙◌, ⊎_elim, arith, drop-cons, add-one}
+use Rattle.std.proofs.Common.{◌≡◌, ℕ, ◌+◌, ◌-◌, ◌<◌, ℤ, List, [], ◌∷◌, map, length, take, drop, get_or, Option, Some, None, Ok, Err, refl, sym, ap, ◌∙◌, arith}
 use Rattle.std.specs.Prelude.{unwrap_or}
-use Rattle.std.specs.List.{range_with_len}
 use Rattle.std.specs.Str.Lines.{lines}
-use Rattle.std.proofs.lemmas.Bool.{cases_order}
 use Rattle.std.proofs.lemmas.List.{length-map, length-drop, take_more}
 use Rattle.tcel_num.specs.declared.port_row.PortRow.{PortRow}
 use Rattle.tcel_num.specs.PortRow.{HaveDistinctNames}
 use Rattle.tcel_script.specs.declared.fail.ScriptFail.{ScriptFail}
 use Rattle.tcel_script.specs.declared.fail.ScriptFail.TheVariants.{BadLine, NoPort, PortTwice, Number, NoMemory}
 use Rattle.tcel_script.specs.Lines.{Line, passed, line_of, script_lines}
-use Rattle.tcel_script.specs.Script.{fault_at, first_fault, unless_fault, stream_in, streams_of, script_of, Reads}
+use Rattle.tcel_script.specs.Script.{fault_at, unless_fault, stream_in, streams_of, script_of, HasStreams, Reads}
 use Rattle.tcel_script.specs.Rows.{Rows, rows_of, streams_in, FitsPorts, after_line, Takes}
 use Rattle.std.proofs.lemmas.List.{take_all}
+use Rattle.tcel_script.proofs.Faults.{cut_cons, fault_first, no_fault}
 use Rattle.tcel_script.proofs.Found.{after_is, next_rows}
-
--- no fault at any place
-no_fault : (f : ℕ → Option ScriptFail) (from n : ℕ) → ((k : ℕ) → from ≤ k → k < from + n → f k ≡ None) → first_fault (map f (range_with_len from n)) ≡ None
-no_fault f from zero h = refl
-no_fault f from (suc n) h = rw (h from (omega arith) (omega arith)) (no_fault f (from + 1) n (λ k low high. h k (omega arith) (omega arith)))
-
--- the first place with a fault
-fault_first : (f : ℕ → Option ScriptFail) (from n k : ℕ) (fault : ScriptFail) → from ≤ k → k < from + n → ((j : ℕ) → from ≤ j → j < k → f j ≡ None) → f k ≡ Some fault → first_fault (map f (range_with_len from n)) ≡ Some fault
-fault_first f from zero k fault low high before h = absurd (omega arith)
-fault_first f from (suc n) k fault low high before h =
-    ⊎_elim (λ (e : from ≡ k). rw (ap f e ∙ h) refl)
-    (⊎_elim (λ (lt : from < k). rw (before from (omega arith) lt) (fault_first f (from + 1) n k fault (omega arith) (omega arith) (λ j lo hi. before j (omega arith) hi) h))
-    (λ (lt : k < from). absurd (omega arith)))
-    (cases_order from k)
 
 pub sound_script : (ports : List PortRow) (bytes : List ℕ) → ((k : ℕ) → k < length (script_lines bytes) → fault_at ports (script_lines bytes) k ≡ None) → script_of ports bytes ≡ Ok (streams_of ports (script_lines bytes))
 sound_script ports bytes sound =
@@ -57,14 +42,6 @@ rows_fit (row ∷ ports) lines =
     ap (λ (n : ℕ). n ∷ map length (rows_of ports lines)) (length-map row.inputs (λ input. stream_in lines row.task input))
     ∙ ap (λ (rest : List ℕ). length row.inputs ∷ rest) (rows_fit ports lines)
 
--- what is left after so many lines begins with the next one
-cut_cons : (xs : List Line) (n : ℕ) (y : Line) (ys : List Line) → drop n xs ≡ y ∷ ys → (n < length xs) × (get_or xs n passed ≡ y) × (drop (n + 1) xs ≡ ys)
-cut_cons xs n y ys h =
-    let long : length xs - n ≡ suc (length ys) = sym (length-drop n xs) ∙ ap length h in
-    let inside : n < length xs = omega arith in
-    let first : get_or xs n passed ∷ drop (suc n) xs ≡ y ∷ ys = sym (drop-cons xs n passed inside) ∙ h in
-    (inside, cc, rw add-one cc)
-
 pub record IsNext (all : List Line) (n : ℕ) (line more : List ℕ) : Type 0 where
   pub inside : n < length all
   pub this : get_or all n passed ≡ line_of line
@@ -72,7 +49,7 @@ pub record IsNext (all : List Line) (n : ℕ) (line more : List ℕ) : Type 0 wh
 
 pub next_is : (all : List Line) (n : ℕ) (rest line more : List ℕ) → script_lines rest ≡ drop n all → lines rest ≡ line ∷ lines more → IsNext all n line more
 next_is all n rest line more left cut =
-    let parts = cut_cons all n (line_of line) (script_lines more) (sym left ∙ ap (map line_of) cut) in
+    let parts = cut_cons all n (line_of line) (script_lines more) passed (sym left ∙ ap (map line_of) cut) in
     record { inside = parts.0; this = parts.1; left = sym parts.2 }
 
 -- the rows after one line more, or its fault
@@ -119,3 +96,11 @@ finished ports bytes [] n rows left none sound so_far =
     let whole : take n all ≡ all = take_all n all (omega arith) in
     let same : streams_in rows ≡ streams_of ports all = ap streams_in (so_far ∙ ap (rows_of ports) whole) ∙ streams_are ports all in
     rw same (sound_script ports bytes (λ k lt. sound k (omega arith)))
+
+-- the streams of rows with a place for each input are as many
+pub streams_fit : (ports : List PortRow) (rows : Rows) → FitsPorts ports rows → HasStreams ports (streams_in rows)
+streams_fit ports rows fits = counts rows ∙ fits
+  where
+    counts : (rows : Rows) → map length (streams_in rows) ≡ map length rows
+    counts [] = refl
+    counts (row ∷ rows) = ap (λ (n : ℕ). n ∷ map length (streams_in rows)) (length-map row (λ found. unwrap_or found [])) ∙ ap (λ (ns : List ℕ). length row ∷ ns) (counts rows)

@@ -1,5 +1,5 @@
 -- The streams of a script, or its first fault.
-use Rattle.std.specs.Prelude.{◌≡◌, ℕ, ◌+◌, ℤ, pos, Bool, false, not, ◌&&◌, nat_eq, is_none, if◌then◌else◌, List, [], ◌∷◌, length, map, take, find, Option, Some, None, option_map, unwrap_or, Result, Ok, Err, slice_index_or}
+use Rattle.std.specs.Prelude.{◌≡◌, ℕ, ◌+◌, ℤ, pos, Bool, false, not, ◌&&◌, nat_eq, is_none, if◌then◌else◌, List, [], ◌∷◌, length, map, take, find, Option, Some, None, option_map, unwrap_or, Result, Ok, Err, slice_index_or, slice_set}
 use Rattle.std.specs.List.{list_any, range_with_len}
 use Rattle.std.specs.Cmp.Lexicographic.{pointwise}
 use Rattle.tcel_num.specs.declared.port_row.PortRow.{PortRow}
@@ -41,7 +41,7 @@ fault_behind ports number earlier (stream task port words) =
 abbrev pub fault_at : List PortRow → List Line → ℕ → Option ScriptFail
 fault_at ports lines place = fault_behind ports (place + 1) (take place lines) (slice_index_or lines place passed)
 
-abbrev pub first_fault : List (Option ScriptFail) → Option ScriptFail
+abbrev pub first_fault : {E : Type 0} → List (Option E) → Option E
 first_fault [] = None
 first_fault (None ∷ more) = first_fault more
 first_fault (Some fault ∷ more) = Some fault
@@ -59,9 +59,9 @@ stream_in lines task port = option_map values_of (find (is_for task port) lines)
 abbrev pub streams_of : List PortRow → List Line → Streams
 streams_of ports lines = map (λ row. map (λ input. unwrap_or (stream_in lines row.task input) []) row.inputs) ports
 
-abbrev pub unless_fault : Option ScriptFail → Streams → Result Streams ScriptFail
-unless_fault None streams = Ok streams
-unless_fault (Some fault) streams = Err fault
+abbrev pub unless_fault : {X E : Type 0} → Option E → X → Result X E
+unless_fault None said = Ok said
+unless_fault (Some fault) said = Err fault
 
 -- what a script says for these ports: its streams, or its first fault
 abbrev pub script_of : List PortRow → List ℕ → Result Streams ScriptFail
@@ -69,6 +69,10 @@ script_of ports bytes =
     let lines = script_lines bytes in
     let faults = map (fault_at ports lines) (range_with_len 0 (length lines)) in
     unless_fault (first_fault faults) (streams_of ports lines)
+
+-- a stream for each input of these ports
+abbrev pub HasStreams : List PortRow → Streams → Type 0
+HasStreams ports streams = map length streams ≡ map (λ (row : PortRow). length row.inputs) ports
 
 -- the answer is what the script says, unless memory ran out
 abbrev pub Reads : Result Streams ScriptFail → Result Streams ScriptFail → Type 0
@@ -79,3 +83,7 @@ Reads (Err fault) script = script ≡ Err fault
 -- a value of a stream, from 0, and 0 where there is none
 abbrev pub value_at : Streams → ℕ → ℕ → ℕ → ℤ
 value_at streams task port n = slice_index_or (slice_index_or (slice_index_or streams task []) port []) n (pos 0)
+
+-- these values are the whole stream of an input of a task
+abbrev pub with_stream : Streams → ℕ → ℕ → List ℤ → Streams
+with_stream streams task port values = slice_set streams task (slice_set (slice_index_or streams task []) port values)

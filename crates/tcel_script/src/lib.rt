@@ -11,6 +11,7 @@ mod script;
 
 pub use examples::script_examples;
 pub use fail::ScriptFail;
+pub use line::{is_comment, next_line, next_word};
 pub use read::read_script;
 pub use script::Script;
 

@@ -2,8 +2,8 @@ ghost use Rattle.std.specs.Prelude.{◌≡◌, ◌<◌, ◌==◌, not, ◌∷◌
 ghost use Rattle.std.specs.Str.Lines.{lines, strip_carriage_return};
 ghost use Rattle.tcel_script.specs.Lines.{is_blank, words, is_comment};
 
-/// The first line, and what stands behind it.
-pub(crate) fn next_line(bytes: &[u8]) -> (&[u8], &[u8])
+/// The first line, without its line feed and a carriage return right before that, and what stands behind it (docs/formats.md).
+pub fn next_line(bytes: &[u8]) -> (&[u8], &[u8])
     requires { 0 < length bytes.now }
     ensures value { lines bytes.now ≡ result.0.now ∷ lines result.1.now }
     ensures shorter { length result.1.now < length bytes.now }
@@ -29,8 +29,8 @@ fn without_return(line: &[u8]) -> &[u8]
     }
 }
 
-/// The first word of a line and what stands behind it, or None where there is no word.
-pub(crate) fn next_word(line: &[u8]) -> Option<(&[u8], &[u8])>
+/// The first word of a line and what stands behind it, or None where there is no word. Words stand between spaces and tabs.
+pub fn next_word(line: &[u8]) -> Option<(&[u8], &[u8])>
     ensures none { IfNone result (words line.now ≡ []) }
     ensures found { IfSome result (λ r. words line.now ≡ r.0.now ∷ words r.1.now) }
     ensures shorter { IfSome result (λ r. length r.1.now < length line.now) }
@@ -58,7 +58,8 @@ fn is_blank(byte: u8) -> bool
     byte == b' ' || byte == b'\t'
 }
 
-pub(crate) fn is_comment(line: &[u8]) -> bool
+/// Whether a line is a comment: its first byte is the sign `#`.
+pub fn is_comment(line: &[u8]) -> bool
     ensures { result ≡ is_comment line.now }
 {
     match line {

@@ -1,6 +1,6 @@
 ghost use Rattle.std.specs.Prelude.{◌≡◌, ◌≤◌, length, IfOk};
 ghost use Rattle.tcel_num.specs.PortRow.{HaveDistinctNames};
-ghost use Rattle.tcel_script.specs.Script.{Reads, script_of};
+ghost use Rattle.tcel_script.specs.Script.{HasStreams, Reads, script_of};
 
 use crate::fail::ScriptFail;
 use crate::line::next_line;
@@ -16,6 +16,7 @@ pub fn read_script(alloc: Global, bytes: &[u8], ports: &[PortRow]) -> Result<Scr
     requires distinct { HaveDistinctNames ports.now }
     ensures read { Reads result (script_of ports.now bytes.now) }
     ensures tasks { IfOk result (λ script. length script ≡ length ports.now) }
+    ensures streams { IfOk result (HasStreams ports.now) }
 {
     let mut rows = empty_rows(alloc, ports)?;
     let mut rest = bytes;

@@ -1,5 +1,5 @@
-ghost use Rattle.std.specs.Prelude.{◌≡◌, ◌<◌, [], length, map, slice_index_or, unwrap_or, pos, IfOk};
-ghost use Rattle.tcel_script.specs.Script.{value_at};
+ghost use Rattle.std.specs.Prelude.{◌≡◌, ◌<◌, [], length, map, slice_index_or, unwrap_or, pos, IfErr, IfOk};
+ghost use Rattle.tcel_script.specs.Script.{value_at, with_stream};
 ghost use Rattle.tcel_script.specs.Rows.{streams_in};
 
 use crate::row::{Row, Rows, stream_at};
@@ -48,6 +48,18 @@ impl Script {
         ensures { IfOk result (λ lists. map (λ v. v.items) lists.items ≡ slice_index_or self.now task []) }
     {
         copies(alloc, self.rows[task].as_slice())
+    }
+
+    /// Makes these values the whole stream of an input of a task. All other streams stay, and after a refusal all do.
+    pub fn set(&mut self, task: usize, port: usize, values: &[i64]) -> Result<(), NoMemory>
+        requires task { task < length self.old }
+        requires port { port < length (slice_index_or self.old task []) }
+        ensures ok { IfOk result (λ _. self.new ≡ with_stream self.old task port values.now) }
+        ensures refused { IfErr result (λ _. self.new ≡ self.old) }
+    {
+        let stream = Items::from_slice(*self.rows.allocator(), values)?;
+        self.rows[task].set(port, Some(stream));
+        Ok(())
     }
 }
 

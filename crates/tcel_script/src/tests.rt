@@ -1,4 +1,4 @@
-ghost use Rattle.std.specs.Prelude.{◌≡◌, ◌≤◌, length, IfOk};
+ghost use Rattle.std.specs.Prelude.{◌≡◌, ◌≤◌, [], ◌∷◌, length, map, IfOk};
 ghost use Rattle.tcel_num.specs.PortRow.{HaveDistinctNames};
 
 use crate::ScriptFail::{self, BadLine, NoPort, Number, PortTwice};
@@ -12,6 +12,7 @@ use tcel_num::{Name, NoMemory, PortRow};
 fn ports(alloc: Global) -> Result<Vec<PortRow>, NoMemory>
     ensures distinct { IfOk result (λ ports. HaveDistinctNames ports.items) }
     ensures one { IfOk result (λ ports. length ports.items ≡ 1) }
+    ensures input { IfOk result (λ ports. map (λ row. length row.inputs) ports.items ≡ 1 ∷ []) }
 {
     let (Some(task), Some(input)) = (Name::new(b"t"), Name::new(b"s")) else {
         return Err(NoMemory);
@@ -103,5 +104,19 @@ fn a_value_past_the_end_is_zero(rt: HostRuntime) -> Result<(), Fail> {
         ],
         [0, 0, 0]
     );
+    Ok(())
+}
+
+#[test]
+fn a_stream_is_set(rt: HostRuntime) -> Result<(), Fail> {
+    let ports = ports(rt.alloc())?;
+    let mut script = read_script(rt.alloc(), b"t s 7 8 9", &ports)?;
+    script.set(0, 0, &[-1, 2])?;
+    let values = [
+        script.value(0, 0, 0),
+        script.value(0, 0, 1),
+        script.value(0, 0, 2),
+    ];
+    assert_eq!(rt; values, [-1, 2, 0]);
     Ok(())
 }

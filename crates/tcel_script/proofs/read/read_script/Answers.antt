@@ -2,9 +2,9 @@ use Rattle.std.proofs.Common.{◌≡◌, length, take, None, sym, ◌∙◌, sub
 use Rattle.std.proofs.lemmas.Bool.{eqb-true}
 use Rattle.std.proofs.lemmas.Result.{err_from_is_err_and}
 use Rattle.tcel_script.specs.Lines.{script_lines}
-use Rattle.tcel_script.specs.Script.{fault_at}
+use Rattle.tcel_script.specs.Script.{fault_at, HasStreams}
 use Rattle.tcel_script.specs.Rows.{Rows, FitsPorts}
-use Rattle.tcel_script.proofs.Reading.{next_is, went_on, failed, rows_fit, finished}
+use Rattle.tcel_script.proofs.Reading.{next_is, went_on, failed, rows_fit, streams_fit, finished}
 use Rattle.tcel_script.proofs.read.read_script.Goals as goal
 
 pub returns-clause-read : goal.returns-clause-read
@@ -36,3 +36,9 @@ loop-rest-preserved c =
       rows_so_far = on.1;
       sound = below_more (λ k. fault_at c.args.ports.now (script_lines c.args.bytes.now) k ≡ None) c.loop-rest.number c.loop-rest.invariant.sound on.0;
     }
+
+pub returns-clause-streams : goal.returns-clause-streams
+returns-clause-streams c =
+    let ports = c.args.ports.now in
+    let fits = subst (λ (rows : Rows). FitsPorts ports rows) (sym c.loop-rest.invariant.rows_so_far) (rows_fit ports (take c.loop-rest.number (script_lines c.args.bytes.now))) in
+    subst (HasStreams ports) (sym c.new.ensures) (streams_fit ports c.loop-rest.rows.items fits)

@@ -1,0 +1,9 @@
+pub mod Conditions
+pub mod Examples
+pub mod Feeds
+pub mod Laws
+pub mod Lines
+pub mod Linked
+pub mod Links
+pub mod Receives
+pub mod Runs
