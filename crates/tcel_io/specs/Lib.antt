@@ -1,5 +1,6 @@
 pub mod Count
 pub mod File
+pub mod HostSink
 pub mod InTurn
 pub mod Load
 pub mod MemShelf

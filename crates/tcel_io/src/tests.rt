@@ -121,13 +121,11 @@ fn puts_a_text_in_pieces(rt: HostRuntime) -> Result<(), Fail> {
     let mut sink = MemSink::new(rt.alloc(), 1000, Vec::new(rt.alloc()))?;
     assert_eq!(rt; put_both(&mut sink, b"a", b"b"), Ok(()));
     assert_eq!(rt; sink.bytes(), b"ab".as_slice());
-    assert_eq!(rt;
-        put_both(&mut HostSink::output(rt.stdout()), b"a", b"b\n"),
-        Ok(())
-    );
-    assert_eq!(rt;
-        put_both(&mut HostSink::error(rt.stderr()), b"", b"c\n"),
-        Ok(())
-    );
+    let mut out = HostSink::output(rt.stdout());
+    assert_eq!(rt; put_both(&mut out, b"a", b"b\n"), Ok(()));
+    assert_eq!(rt; out.finish(), Ok(()));
+    let mut err = HostSink::error(rt.stderr());
+    assert_eq!(rt; put_both(&mut err, b"", b"c\n"), Ok(()));
+    assert_eq!(rt; err.finish(), Ok(()));
     Ok(())
 }

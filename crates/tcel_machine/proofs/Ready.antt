@@ -2,7 +2,6 @@
 use Rattle.std.proofs.Common.{◌≡◌, ℕ, zero, suc, ◌+◌, ◌*◌, ◌/◌, ◌<◌, ◌≤◌, true, false, ltb, leb, ◌⊎◌, inl, inr, ⊎_elim, List, [], ◌∷◌, length, get_or, set, map, Option, Some, None, refl, ap, sym, ◌∙◌, subst, arith}
 use Rattle.std.specs.List.{slice_get}
 use Rattle.std.specs.Option.{option_map_or}
-use Rattle.std.proofs.lemmas.List.{length-map}
 use Rattle.std.proofs.Math.ListN.{length-set}
 use Rattle.std.proofs.Math.Nat.{le-div_iff_mul-le}
 use Rattle.std.proofs.lemmas.Bool.{cases_lt, lt-leb, le-leb, le-ltb, lt-ltb, leb-true}
@@ -80,14 +79,3 @@ all_but tasks now runs place task new h t kept =
 
 pub read_at : {X : Type 0} (list whole : List X) → list ≡ whole → (place : ℕ) (x : X) → place < length list → x ≡ get_or list place x → slice_get whole place ≡ Some x
 read_at list whole e place x h is = ap (λ l. slice_get l place) (sym e) ∙ slice_get_read list (length list) place x refl h is
-
--- a task that is not ready is passed
-pub passed : (tasks : List ImageTask) (now : ℕ) (runs : List Running) (place : ℕ) → ((other : ℕ) → other < place → ready_at tasks now runs other ≡ false)
-    → ready_at tasks now runs place ≡ false → (other : ℕ) → other < place + 1 → ready_at tasks now runs other ≡ false
-passed tasks now runs place before here other lt =
-    ⊎_elim (λ less. before other less) (λ more. let same : place ≡ other = omega arith in subst (λ k. ready_at tasks now runs k ≡ false) same here) (cases_lt other place)
-
-pub none_ready : (tasks : List ImageTask) (now : ℕ) (runs : List Task) (place : ℕ) → ((other : ℕ) → other < place → ready_at tasks now (map running_of runs) other ≡ false)
-    → length runs ≤ place → (other : ℕ) → ready_at tasks now (map running_of runs) other ≡ false
-none_ready tasks now runs place before past other =
-    ⊎_elim (λ less. before other less) (λ (more : place ≤ other). let h : length runs ≤ other = omega arith in past_ready tasks now (map running_of runs) other (simp length-map h)) (cases_lt other place)

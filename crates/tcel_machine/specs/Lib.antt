@@ -4,5 +4,6 @@ pub mod Seen
 pub mod Stack
 pub mod Task
 pub mod Tick
+pub mod Turns
 pub mod Standing
 pub mod Defaults

@@ -10,6 +10,7 @@ mod stack;
 mod start;
 mod step;
 mod task;
+mod turn;
 
 pub use entry::{Entry, What};
 pub use laws::no_step_takes_a_default;

@@ -5,6 +5,7 @@ use crate::entry::Entry;
 use crate::start::start_all;
 use crate::step::step;
 use crate::task::Task;
+use crate::turn::Turn;
 use std::alloc::Global;
 use std::marker::Model;
 use tcel_num::NoMemory;
@@ -19,6 +20,7 @@ pub struct Machine {
     script: Script,
     tasks: Vec<Task>,
     ticks: u64,
+    turn: Turn,
 }
 
 impl Model for Machine {
@@ -44,6 +46,10 @@ impl Machine {
             script,
             tasks,
             ticks: 0,
+            turn: Turn {
+                first: None,
+                until: 0,
+            },
         })
     }
 
@@ -54,7 +60,8 @@ impl Machine {
         ensures entry { Tells result self.old.image.tasks self.new.machine.tasks (tick_of self.old).entry }
     {
         let tasks = self.tasks.as_mut_slice();
-        let entry = step(self.ready.image(), &self.script, self.ticks, tasks);
+        let image = self.ready.image();
+        let entry = step(image, &self.script, self.ticks, tasks, &mut self.turn);
         self.ticks += 1;
         entry
     }

@@ -1,44 +1,23 @@
-ghost use Rattle.std.specs.Prelude.{◌≡◌, ◌+◌, ◌*◌, ◌<◌, ◌≤◌, ◌^◌, length, map, IfSome};
-ghost use Rattle.tcel_image.specs.Machine.{is_ready};
+ghost use Rattle.std.specs.Prelude.{◌≡◌, ◌+◌, ◌<◌, false, length, map};
 ghost use Rattle.tcel_machine.specs.Runs.{IsFirstReady};
 ghost use Rattle.tcel_machine.specs.Task.{running_of};
 ghost use Rattle.tcel_machine.specs.Tick.{CanTick, Ticks};
+ghost use Rattle.tcel_machine.specs.Turns.{AreReadyAlike, IsTurn, is_end_entry};
 
 use crate::cycle::own_tick;
 use crate::entry::Entry;
 use crate::task::Task;
-use tcel_image::{Image, ImageTask};
+use crate::turn::{Turn, end_with, renew};
+use tcel_image::Image;
 use tcel_script::Script;
-
-fn is_ready(image_task: &ImageTask, now: u64, task: &Task) -> bool
-    requires period { 0 < image_task.now.period }
-    requires now { now < 10 ^ 12 }
-    requires reach { task.now.ended * image_task.now.period ≤ now + image_task.now.period }
-    ensures { result ≡ is_ready image_task.now now (running_of task.now) }
-{
-    task.ended * u64::from(image_task.period) <= now
-}
-
-fn first_ready(image: &Image, now: u64, tasks: &[Task]) -> Option<usize>
-    requires { CanTick image.now now tasks.now }
-    ensures first { IsFirstReady image.now.tasks now (map running_of tasks.now) result }
-    ensures within { IfSome result (λ number. number < length tasks.now) }
-{
-    let image_tasks = image.tasks.as_slice();
-    for (number, task) in tasks.iter().enumerate() {
-        if is_ready(&image_tasks[number], now, task) {
-            return Some(number);
-        }
-    }
-    None
-}
 
 /// A tick that the task of this number has.
 fn run(image: &Image, script: &Script, now: u64, tasks: &mut [Task], number: usize) -> Option<Entry>
     requires can { CanTick image.now now tasks.old }
     requires first { IsFirstReady image.now.tasks now (map running_of tasks.old) (Some number) }
     requires within { number < length tasks.old }
-    ensures { Ticks image.now script.now now tasks.old tasks.new result }
+    ensures ticks { Ticks image.now script.now now tasks.old tasks.new result }
+    ensures alike { is_end_entry result ≡ false → AreReadyAlike image.now.tasks tasks.old tasks.new }
 {
     let image_tasks = image.tasks.as_slice();
     let image_task = &image_tasks[number];
@@ -55,13 +34,26 @@ fn run(image: &Image, script: &Script, now: u64, tasks: &mut [Task], number: usi
     }
 }
 
-/// One tick of all tasks.
-pub(crate) fn step(image: &Image, script: &Script, now: u64, tasks: &mut [Task]) -> Option<Entry>
-    requires { CanTick image.now now tasks.old }
-    ensures { Ticks image.now script.now now tasks.old tasks.new result }
+/// One tick of all tasks. `turn` is what is known of it and of the next.
+pub(crate) fn step(
+    image: &Image,
+    script: &Script,
+    now: u64,
+    tasks: &mut [Task],
+    turn: &mut Turn,
+) -> Option<Entry>
+    requires can { CanTick image.now now tasks.old }
+    requires turn { IsTurn image.now.tasks now (map running_of tasks.old) turn.old }
+    ensures ticks { Ticks image.now script.now now tasks.old tasks.new result }
+    ensures turn { IsTurn image.now.tasks (now + 1) (map running_of tasks.new) turn.new }
 {
-    match first_ready(image, now, tasks) {
+    renew(turn, image, now, tasks);
+    match turn.first {
         None => None,
-        Some(number) => run(image, script, now, tasks, number),
+        Some(number) => {
+            let entry = run(image, script, now, tasks, number);
+            end_with(turn, &entry);
+            entry
+        }
     }
 }

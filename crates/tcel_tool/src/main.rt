@@ -1,6 +1,10 @@
 //! The program `tcel`: its commands.
 #![tactic(auto)]
 
+ghost use Rattle.std.specs.Prelude.{◌≡◌, ◌<◌, ◌⊎◌};
+ghost use Rattle.tcel_io.specs.Count.{Rose};
+
+use fault_line::put_fault_line;
 use status::Status;
 use std::env;
 use std::io::ErrorKind;
@@ -44,6 +48,8 @@ mod program;
 mod program_tests;
 mod report;
 mod run;
+#[cfg(test)]
+mod schedule_tests;
 mod script;
 mod span_line;
 mod spans;
@@ -71,11 +77,26 @@ fn main(rt: HostRuntime) -> ExitCode {
             &mut err,
         ),
         Err(status) => {
-            fault_line::put_fault_line(&[], &status, b"", &mut err);
+            put_fault_line(&[], &status, b"", &mut err);
             status
         }
     };
-    ExitCode::from(status.code())
+    ExitCode::from(finish(status, &mut out, &mut err).code())
+}
+
+/// Writes what the streams still hold, output before error, at the end of a call with this status. Where output can't be written, a call that
+/// was done is one with a write fault.
+fn finish(status: Status, out: &mut HostSink, err: &mut HostSink) -> Status
+    ensures kept { (result ≡ status) ⊎ ((status ≡ Status.Ok) × (result ≡ Status.WriteFault) × Rose out.old out.new) }
+    ensures fault { status ≡ Status.Ok → out.old < out.new → result ≡ Status.WriteFault }
+{
+    let mut end = status;
+    if out.finish().is_err() && matches!(end, Status::Ok) {
+        end = Status::WriteFault;
+        put_fault_line(&[], &end, b"", err);
+    }
+    let _unwritten = err.finish();
+    end
 }
 
 /// The words behind the program's name. One that isn't UTF-8 is a faulty command line.
