@@ -11,7 +11,8 @@ use Rattle.tcel_tool.specs.ProgramText.{IsDeep, IsLexical}
 use Rattle.tcel_tool.specs.RunCommand.{RefusesImage}
 use Rattle.tcel_tool.specs.ScriptText.{RefusesLines}
 use Rattle.tcel_tool.specs.SetChoice.{status_for}
-use Rattle.tcel_tool.specs.Stage.{Call, Stage, load, bound, test}
+use Rattle.tcel_tool.specs.MadeText.{made_text}
+use Rattle.tcel_tool.specs.Stage.{Call, Stage, load, make, bound, test}
 use Rattle.tcel_tool.specs.Test.{Test}
 use Rattle.tcel_tool.specs.Test as tests
 use Rattle.tcel_tool.specs.declared.command.Command.{Command}
@@ -87,6 +88,7 @@ cause_refusal causes.NoMemory status known h = absurd (known refl)
 pub refusal : (what : Test) (call : Call) (status : Status) → Refuses what call status → IsTrue (is_refusal status)
 refusal tests.target call status h = becomes status _ h.1 refl
 refusal tests.choice call status h = cause_refusal h.refused.0 status h.refused.1 h.refused.2
+refusal tests.unit_choice call status h = cause_refusal h.refused.0 status h.refused.1 h.refused.2
 refusal tests.image call status h = image_refusal (call.read 1) status h
 refusal tests.script call status h = script_refusal (port_rows h.0) (call.read 2) status h.2
 refusal tests.program call status (inl h) = lexical_refusal h.0 status h.1
@@ -114,6 +116,8 @@ never_words command end (load word limit ∷ stages) call shelf (inl (inr (inl s
 never_words command end (load word limit ∷ stages) call shelf (inl (inr (inr s), same)) e = let o = s.0 in cc
 never_words command end (load word limit ∷ stages) call shelf (inr (bytes, next, loads, rest)) e =
     never_words command end stages (with_read word bytes call) next rest e
+never_words command end (make what word ∷ stages) call shelf (inl stop) e = let c = stop.cause in cc
+never_words command end (make what word ∷ stages) call shelf (inr rest) e = never_words command end stages (with_read word (made_text what call.words) call) shelf rest e
 never_words command end (bound kind word most ∷ stages) call shelf (inl stop) e = let o = stop.cause.0 in cc
 never_words command end (bound kind word most ∷ stages) call shelf (inr (few, rest)) e = never_words command end stages call shelf rest e
 never_words command end (test what ∷ stages) call shelf (inl (stop, named)) e =
@@ -160,6 +164,9 @@ agrees command end told decided (load word limit ∷ stages) call shelf same (in
       | inr short ↦
           agrees command end told decided stages (with_read word bytes call) next (told_again call.words word limit shelf next bytes loads ∙ same) rest short.1
     ]
+agrees command end told decided (make what word ∷ stages) call shelf same (inl stop) d = out_of_memory decided end.status stop.cause
+agrees command end told decided (make what word ∷ stages) call shelf same (inr rest) d =
+    agrees command end told decided stages (with_read word (made_text what call.words) call) shelf same rest d
 agrees command end told decided (bound kind word most ∷ stages) call shelf same (inl stop) (inl d) = inl (stop.cause.0 ∙ sym d.0)
 agrees command end told decided (bound kind word most ∷ stages) call shelf same (inl stop) (inr d) = absurd (omega (arith, stop.cause.1, d.0))
 agrees command end told decided (bound kind word most ∷ stages) call shelf same (inr (few, rest)) (inl d) = absurd (omega (arith, few, d.1))
@@ -178,6 +185,7 @@ abbrev pub Reads : (List ℕ → Option (List ℕ)) → List Stage → Call → 
 Reads told [] call last = last ≡ call
 Reads told (load word limit ∷ stages) call last =
     (bytes : List ℕ) × IfSome (told (word_at call.words word)) (λ all. bytes ≡ all) × Reads told stages (with_read word bytes call) last
+Reads told (make what word ∷ stages) call last = Reads told stages (with_read word (made_text what call.words) call) last
 Reads told (bound kind word most ∷ stages) call last = Reads told stages call last
 Reads told (test what ∷ stages) call last = Reads told stages call last
 
@@ -209,6 +217,10 @@ finished command end told (load word limit ∷ stages) call shelf same (inr (byt
       text = f.text;
       taken = f.taken;
     }
+finished command end told (make what word ∷ stages) call shelf same (inl stop) e = absurd (let c = stop.cause in cc)
+finished command end told (make what word ∷ stages) call shelf same (inr rest) e =
+    let f = finished command end told stages (with_read word (made_text what call.words) call) shelf same rest e in
+    record { last = f.last; reads = f.reads; pieces = f.pieces; text = f.text; taken = f.taken }
 finished command end told (bound kind word most ∷ stages) call shelf same (inl stop) e = absurd (let o = stop.cause.0 in cc)
 finished command end told (bound kind word most ∷ stages) call shelf same (inr (few, rest)) e =
     let f = finished command end told stages call shelf same rest e in

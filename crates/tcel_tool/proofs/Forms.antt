@@ -12,7 +12,7 @@ use Rattle.tcel_script.specs.Numbers.{magnitude}
 use Rattle.tcel_tool.specs.Commands.{HasForm, HaveNoForm, name_of}
 use Rattle.tcel_tool.specs.declared.command.Slot.{Slot}
 use Rattle.tcel_tool.specs.declared.command.Command.{Command}
-use Rattle.tcel_tool.specs.declared.command.Command.TheVariants.{Compile, Run, Format, Check, Mean, Analyse, Timeline, Fewest, Make}
+use Rattle.tcel_tool.specs.declared.command.Command.TheVariants.{Compile, Run, Format, Check, Mean, Analyse, Timeline, Fewest, Make, Trial}
 
 -- no two commands have one name
 abbrev command_named : List ℕ → Command
@@ -22,7 +22,8 @@ command_named word =
     else (if pointwise nat_eq word (name_of Format) then Format
     else (if pointwise nat_eq word (name_of Check) then Check
     else (if pointwise nat_eq word (name_of Mean) then Mean else (if pointwise nat_eq word (name_of Analyse) then Analyse
-    else (if pointwise nat_eq word (name_of Timeline) then Timeline else (if pointwise nat_eq word (name_of Fewest) then Fewest else Make)))))))
+    else (if pointwise nat_eq word (name_of Timeline) then Timeline else (if pointwise nat_eq word (name_of Fewest) then Fewest
+    else (if pointwise nat_eq word (name_of Make) then Make else Trial))))))))
 
 named : (command : Command) → command_named (name_of command) ≡ command
 named Compile = refl
@@ -34,6 +35,7 @@ named Analyse = refl
 named Timeline = refl
 named Fewest = refl
 named Make = refl
+named Trial = refl
 
 one_name : (a b : Command) → name_of a ≡ name_of b → a ≡ b
 one_name a b e = sym (named a) ∙ ap command_named e ∙ named b
@@ -45,7 +47,8 @@ one_form (first ∷ words) a b h k = one_name a b (sym h.0 ∙ k.0)
 
 -- words that have the form of none of these have the form of none
 pub of_none : (words : List (List ℕ)) →
-    AllByRecursion (λ (command : Command). ¬ HasForm command words) (Compile ∷ Run ∷ Format ∷ Check ∷ Mean ∷ Analyse ∷ Timeline ∷ Fewest ∷ Make ∷ []) → HaveNoForm words
+    AllByRecursion (λ (command : Command). ¬ HasForm command words) (Compile ∷ Run ∷ Format ∷ Check ∷ Mean ∷ Analyse ∷ Timeline ∷ Fewest ∷ Make ∷ Trial ∷ []) →
+    HaveNoForm words
 of_none words none Compile = none.0
 of_none words none Run = none.1.0
 of_none words none Format = none.1.1.0
@@ -55,6 +58,7 @@ of_none words none Analyse = none.1.1.1.1.1.0
 of_none words none Timeline = none.1.1.1.1.1.1.0
 of_none words none Fewest = none.1.1.1.1.1.1.1.0
 of_none words none Make = none.1.1.1.1.1.1.1.1.0
+of_none words none Trial = none.1.1.1.1.1.1.1.1.1.0
 
 both : (a b : Bool) → IsTrue (a && b) → IsTrue a × IsTrue b
 both true b h = (refl, h)
@@ -98,6 +102,29 @@ counts_are_numbers words h = (is_above (word_at words 2) (seed_and_count (name_o
 
 pub some_are_made : (words : List (List ℕ)) → HasForm Make words → 1 ≤ number_at words 2
 some_are_made words h = (is_above (word_at words 2) (seed_and_count (name_of Make) [] words h).1).1
+
+pub trial_seeds_are_numbers : (words : List (List ℕ)) → HasForm Trial words → IsTrue (is_number (word_at words 1))
+trial_seeds_are_numbers words h = (seed_and_count (name_of Trial) (Slot.Number ∷ []) words h).0
+
+pub trial_counts_are_numbers : (words : List (List ℕ)) → HasForm Trial words → IsTrue (is_number (word_at words 2))
+trial_counts_are_numbers words h = (is_above (word_at words 2) (seed_and_count (name_of Trial) (Slot.Number ∷ []) words h).1).0
+
+pub some_are_tried : (words : List (List ℕ)) → HasForm Trial words → 1 ≤ number_at words 2
+some_are_tried words h = (is_above (word_at words 2) (seed_and_count (name_of Trial) (Slot.Number ∷ []) words h).1).1
+
+trial_ends : (name : List ℕ) (words : List (List ℕ)) → AreWords name (Slot.Number ∷ Slot.Positive ∷ Slot.Number ∷ []) words → IsTrue (is_number (word_at words 3))
+trial_ends own [] h = absurd h
+trial_ends own (name ∷ []) h = absurd (let e = h.1 in cc)
+trial_ends own (name ∷ a ∷ []) h = absurd (let e = (both (is_number a) (fit (Slot.Positive ∷ Slot.Number ∷ []) []) h.1).1 in cc)
+trial_ends own (name ∷ a ∷ b ∷ []) h =
+    absurd (let e = (both (is_positive b) (fit (Slot.Number ∷ []) []) (both (is_number a) (fit (Slot.Positive ∷ Slot.Number ∷ []) (b ∷ [])) h.1).1).1 in cc)
+trial_ends own (name ∷ a ∷ b ∷ c ∷ words) h =
+    let rest = both (is_number a) (fit (Slot.Positive ∷ Slot.Number ∷ []) (b ∷ c ∷ words)) h.1 in
+    let last = both (is_positive b) (fit (Slot.Number ∷ []) (c ∷ words)) rest.1 in
+    (both (is_number c) (fit [] words) last.1).0
+
+pub trial_ticks_are_a_number : (words : List (List ℕ)) → HasForm Trial words → IsTrue (is_number (word_at words 3))
+trial_ticks_are_a_number words h = trial_ends (name_of Trial) words h
 
 one_way : (b : Bool) → (b ≡ false → ⊥) → b ≡ true
 one_way true h = refl

@@ -14,6 +14,9 @@ pub mod Promise
 pub mod Reports
 pub mod ReportExamples
 pub mod CompileFacts
+pub mod Counts
+pub mod TrialStages
+pub mod SummaryExamples
 pub mod RunStages
 pub mod CheckStages
 pub mod Forms

@@ -3,7 +3,8 @@ use Rattle.std.proofs.Common.{◌≡◌, ℕ, List, [], ◌∷◌, ◌++◌, Opt
 use Rattle.std.specs.Prelude.{IsErrAnd}
 use Rattle.tcel_io.specs.Shelf.{SeenShelf}
 use Rattle.tcel_tool.specs.Answer.{Ended, Goes, Stops, status_of, with_read}
-use Rattle.tcel_tool.specs.Stage.{Call, Stage, load, bound, test}
+use Rattle.tcel_tool.specs.MadeText.{made_text}
+use Rattle.tcel_tool.specs.Stage.{Call, Stage, load, make, bound, test}
 use Rattle.tcel_tool.specs.Stretch.{Passed, Stopped}
 use Rattle.tcel_tool.specs.declared.command.Command.{Command}
 use Rattle.tcel_tool.specs.declared.status.Status.{Status}
@@ -21,6 +22,8 @@ goes_behind command end [] more call last shelf new (is, same) rest =
     subst (λ (c : Call). Goes command end more c shelf) is (subst (λ (s : SeenShelf). Goes command end more last s) same rest)
 goes_behind command end (load word limit ∷ stages) more call last shelf new (bytes, next, loads, passed) rest =
     inr (bytes, next, loads, goes_behind command end stages more (with_read word bytes call) last next new passed rest)
+goes_behind command end (make what word ∷ stages) more call last shelf new passed rest =
+    inr (goes_behind command end stages more (with_read word (made_text what call.words) call) last shelf new passed rest)
 goes_behind command end (bound kind word most ∷ stages) more call last shelf new (few, passed) rest =
     inr (few, goes_behind command end stages more call last shelf new passed rest)
 goes_behind command end (test what ∷ stages) more call last shelf new (passes, passed) rest =
@@ -32,6 +35,10 @@ goes_stopped command end [] more call shelf h same = absurd h
 goes_stopped command end (load word limit ∷ stages) more call shelf (inl stops) same = inl (stops, same)
 goes_stopped command end (load word limit ∷ stages) more call shelf (inr (bytes, next, loads, stopped)) same =
     inr (bytes, next, loads, goes_stopped command end stages more (with_read word bytes call) next stopped same)
+goes_stopped command end (make what word ∷ stages) more call shelf (inl (none, is)) same =
+    inl (record { cause = none; same = is; untouched = same })
+goes_stopped command end (make what word ∷ stages) more call shelf (inr stopped) same =
+    inr (goes_stopped command end stages more (with_read word (made_text what call.words) call) shelf stopped same)
 goes_stopped command end (bound kind word most ∷ stages) more call shelf (inl (above, is)) same =
     inl (record { cause = above; same = is; untouched = same })
 goes_stopped command end (bound kind word most ∷ stages) more call shelf (inr (few, stopped)) same =

@@ -23,6 +23,7 @@ use Rattle.tcel_driver.specs.Forms.{AreForms}
 use Rattle.tcel_check.specs.Rows.{marks}
 use Rattle.tcel_check.specs.declared.mark.Mark.{Mark}
 use Rattle.tcel_target.proofs.Told.{says_one}
+use Rattle.tcel_target.specs.Costs.{unit_costs}
 use Rattle.tcel_target.specs.Target.{IsTarget, Says}
 use Rattle.tcel_target.specs.declared.costs.Costs.{Costs}
 use Rattle.tcel_target.specs.declared.fail.TargetFail.{TargetFail}
@@ -42,7 +43,7 @@ use Rattle.tcel_verify.specs.Ports.{port_rows}
 use Rattle.tcel_tool.specs.CheckCommand.{IsFaultless, RefusesFaults, status_at}
 use Rattle.tcel_tool.specs.Commands.{Passes, Refuses}
 use Rattle.tcel_tool.specs.FewestCommand.{HasFewTasks, RefusesMany, many_tasks}
-use Rattle.tcel_tool.specs.SetChoice.{Choice, IsChoiceFor, RefusesChoice, RefusesSet, status_for}
+use Rattle.tcel_tool.specs.SetChoice.{Choice, IsChoiceFor, IsUnitChoice, RefusesChoice, RefusesSet, RefusesUnitChoice, status_for}
 use Rattle.tcel_tool.specs.SetForms.{AreFormsFor, ForbidsSet, RefusesForms, SetForms}
 use Rattle.tcel_tool.specs.TargetText.{HasFault}
 use Rattle.tcel_tool.specs.ProgramText.{IsDeep, IsGrammatical, IsLexical, IsProgramText, RefusesText}
@@ -228,6 +229,21 @@ one_choice_refusal program target a b one other =
     (one_program program one.tasks other.tasks one.faultless.program other.faultless.program) (one_costs target one.costs other.costs one.gives.text other.gives.text) one.refused in
     one_set_refusal (set_of other.tasks) other.costs a b refused other.refused
 
+-- ---- choices for unit costs
+
+unit_chosen_or_refused : (program : List ℕ) (c : Choice) (status : Status) → IsUnitChoice program c → RefusesUnitChoice program status → ⊥
+unit_chosen_or_refused program c status is not_made =
+    let same = one_program program not_made.tasks is.tasks not_made.faultless.program is.faultless.program in
+    let refused = subst (λ (ts : List trees.Task). RefusesSet (set_of ts) unit_costs status) same not_made.refused in
+    let set = subst (λ (set : List core.Task). IsChosen set c.costs c.sliced c.plans c.parts) is.is is.best.chosen in
+    let chosen = subst (λ (k : Costs). IsChosen (set_of is.tasks) k c.sliced c.plans c.parts) is.unit set in
+    refused.1 (made (set_of is.tasks) unit_costs c.sliced c.plans c.parts refused.0 chosen refused.3)
+
+one_unit_refusal : (program : List ℕ) (a b : Status) → RefusesUnitChoice program a → RefusesUnitChoice program b → a ≡ b
+one_unit_refusal program a b one other =
+    let same = one_program program one.tasks other.tasks one.faultless.program other.faultless.program in
+    one_set_refusal (set_of other.tasks) unit_costs a b (subst (λ (ts : List trees.Task). RefusesSet (set_of ts) unit_costs a) same one.refused) other.refused
+
 -- ---- forms
 
 -- where a form is beyond a limit, no choice is made
@@ -283,6 +299,7 @@ one_input_fault text lines a b (tasks, faultless, refuses) (others, faultless', 
 pub passes_or_refuses : (what : Test) (call : Call) (status : Status) → Passes what call → Refuses what call status → ⊥
 passes_or_refuses tests.target call status p h = costs_or_fault (call.read 2) p.0 h.0 p.1.text h.2
 passes_or_refuses tests.choice call status p h = chosen_or_refused (call.read 1) (call.read 2) p.0 status p.1 h
+passes_or_refuses tests.unit_choice call status p h = unit_chosen_or_refused (call.read 1) p.0 status p.1 h
 passes_or_refuses tests.image call status p h = image_or_why (call.read 1) p.0 status p.1 (why_image (call.read 1) status h)
 passes_or_refuses tests.script call status p h =
     let same = one_image (call.read 1) h.0 p.0 h.1.spells p.2.image_in.spells in
@@ -296,6 +313,7 @@ passes_or_refuses tests.forms call status p h = forms_or_refused (call.read 1) (
 pub one_refusal : (what : Test) (call : Call) (a b : Status) → Refuses what call a → Refuses what call b → a ≡ b
 one_refusal tests.target call a b h k = h.1 ∙ ap statuses.Target (one_target_fault (call.read 2) h.0 k.0 h.2 k.2) ∙ sym k.1
 one_refusal tests.choice call a b h k = one_choice_refusal (call.read 1) (call.read 2) a b h k
+one_refusal tests.unit_choice call a b h k = one_unit_refusal (call.read 1) a b h k
 one_refusal tests.image call a b h k = one_why (call.read 1) a b (why_image (call.read 1) a h) (why_image (call.read 1) b k)
 one_refusal tests.script call a b h k =
     let same = one_image (call.read 1) h.0 k.0 h.1.spells k.1.spells in

@@ -1,5 +1,5 @@
 -- Images that `compile` wrote, as `run` reads them.
-use Rattle.std.proofs.Common.{◌≡◌, ℕ, List, [], ◌∷◌, map, sym, subst, Option, Some, None}
+use Rattle.std.proofs.Common.{◌≡◌, ℕ, List, [], ◌∷◌, inl, inr, map, refl, sym, subst, Option, Some, None}
 use Rattle.std.specs.Prelude.{Ok, unwrap_or}
 use Rattle.std.specs.List.{AllZip}
 use Rattle.std.proofs.lemmas.List.{length-map}
@@ -17,8 +17,14 @@ use Rattle.tcel_script.specs.declared.fail.ScriptFail.{ScriptFail}
 use Rattle.tcel_verify.specs.Ports.{port_row, port_rows}
 use Rattle.tcel_tool.specs.CompileCommand.{image_bytes}
 use Rattle.tcel_tool.specs.Headline.{KeepsItsPromise, image_for}
-use Rattle.tcel_tool.specs.RunCommand.{Spells}
+use Rattle.tcel_tool.specs.Answer.{OrMemory}
+use Rattle.tcel_tool.specs.RunCommand.{IsImageIn, RefusesImage, Spells}
+use Rattle.tcel_tool.specs.Stage.{Call}
+use Rattle.tcel_tool.specs.Test as tests
+use Rattle.tcel_tool.specs.declared.status.Status.{Status}
+use Rattle.tcel_tool.specs.declared.status.Status.TheVariants as statuses
 use Rattle.tcel_tool.specs.SetChoice.{Choice}
+use Rattle.tcel_tool.proofs.TestLaws.{passes_or_refuses}
 use Rattle.tcel_tool.specs.WrittenImages.{RunsOfWrittenImagesMeet, WrittenImagesAreTaken}
 
 -- streams are given without a fault
@@ -32,8 +38,17 @@ has_streams [] lines = tt
 has_streams (form ∷ forms) lines = (length-map form.task.inputs (λ (input : List ℕ). unwrap_or (stream_in lines form.task.name input) []), has_streams forms lines)
 
 -- the image that written bytes spell is the one that was written
-same_image : (c : Choice) (kept : KeepsItsPromise c) (given : Image) → Spells (image_bytes c) given → image_for c ≡ given
+pub same_image : (c : Choice) (kept : KeepsItsPromise c) (given : Image) → Spells (image_bytes c) given → image_for c ≡ given
 same_image c kept given spells = told_apart (image_for c) given kept.spelled spells.range spells.spelled
+
+-- what refuses the written bytes is want of memory
+pub never_refused : (c : Choice) (kept : KeepsItsPromise c) (bytes : List ℕ) (status : Status) → bytes ≡ image_bytes c → OrMemory (RefusesImage bytes) status
+    → status ≡ statuses.NoMemory
+never_refused c kept bytes status are (inl none) = none
+never_refused c kept bytes status are (inr refuses) =
+    let call : Call = record { words = []; read = λ word. image_bytes c } in
+    let given : IsImageIn (image_bytes c) (image_for c) = record { spells = record { range = kept.spelled; spelled = refl }; valid = kept.valid } in
+    absurd (passes_or_refuses tests.image call status (image_for c, given) (subst (λ b. RefusesImage b status) are refuses))
 
 pub runs_meet : RunsOfWrittenImagesMeet
 runs_meet = λ c kept script given streams ticks runs.

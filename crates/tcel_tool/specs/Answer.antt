@@ -7,7 +7,8 @@ use Rattle.tcel_io.specs.declared.loaded.Outcome.{Outcome}
 use Rattle.tcel_io.specs.declared.loaded.Outcome.TheVariants as outcomes
 use Rattle.tcel_tool.specs.CommandLine.{number_at, word_at}
 use Rattle.tcel_tool.specs.Commands.{IsText, Names, Passes, Refuses, stages_of}
-use Rattle.tcel_tool.specs.Stage.{Call, Stage, load, bound, test}
+use Rattle.tcel_tool.specs.MadeText.{made_text}
+use Rattle.tcel_tool.specs.Stage.{Call, Stage, load, make, bound, test}
 use Rattle.tcel_tool.specs.declared.command.Command.{Command}
 use Rattle.tcel_tool.specs.declared.status.CountKind.{CountKind}
 use Rattle.tcel_tool.specs.declared.status.LimitFault.TheVariants as limits
@@ -83,6 +84,8 @@ Goes command end [] call shelf = Stops (λ status. status ≡ statuses.NoMemory)
 Goes command end (load word limit ∷ stages) call shelf =
     (StopsAtLoad call.words word limit shelf end.shelf end.status × (end.after ≡ end.before))
     ⊎ ((bytes : List ℕ) × (next : SeenShelf) × Loads call.words word limit shelf next bytes × Goes command end stages (with_read word bytes call) next)
+Goes command end (make what word ∷ stages) call shelf =
+    Stops (λ status. status ≡ statuses.NoMemory) shelf end ⊎ Goes command end stages (with_read word (made_text what call.words) call) shelf
 Goes command end (bound kind word most ∷ stages) call shelf =
     Stops (IsAbove call.words kind word most) shelf end ⊎ ((number_at call.words word ≤ most) × Goes command end stages call shelf)
 Goes command end (test what ∷ stages) call shelf =
@@ -113,6 +116,7 @@ Decides told (load word limit ∷ stages) call status =
     MatchOption (told (word_at call.words word)) ⊥ (λ bytes.
     ((limit < length bytes) × (status ≡ statuses.Limit (limits.Bytes word limit)))
     ⊎ ((length bytes ≤ limit) × Decides told stages (with_read word bytes call) status))
+Decides told (make what word ∷ stages) call status = Decides told stages (with_read word (made_text what call.words) call) status
 Decides told (bound kind word most ∷ stages) call status =
     IsAbove call.words kind word most status ⊎ ((number_at call.words word ≤ most) × Decides told stages call status)
 Decides told (test what ∷ stages) call status =

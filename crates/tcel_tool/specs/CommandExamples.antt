@@ -43,6 +43,10 @@ check_line = codes "check" ∷ codes "a" ∷ []
 abbrev pub make_line : List ℕ → List (List ℕ)
 make_line tasks = codes "make" ∷ codes "1" ∷ tasks ∷ []
 
+-- `trial 1`, the tasks and the ticks
+abbrev pub trial_line : List ℕ → List ℕ → List (List ℕ)
+trial_line tasks ticks = codes "trial" ∷ codes "1" ∷ tasks ∷ ticks ∷ []
+
 -- no bytes are told
 abbrev pub nothing_told : List ℕ → Option (List ℕ)
 nothing_told name = None

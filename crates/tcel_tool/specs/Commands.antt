@@ -14,15 +14,16 @@ use Rattle.tcel_tool.specs.MakeCommand as make
 use Rattle.tcel_tool.specs.MeanCommand as mean
 use Rattle.tcel_tool.specs.ProgramText.{IsProgramText, RefusesText}
 use Rattle.tcel_tool.specs.RunCommand as run
-use Rattle.tcel_tool.specs.SetChoice.{Choice, IsChoiceFor, NamesTask, RefusesChoice}
+use Rattle.tcel_tool.specs.SetChoice.{Choice, IsChoiceFor, IsUnitChoice, NamesTask, RefusesChoice, RefusesUnitChoice}
 use Rattle.tcel_tool.specs.SetForms.{AreFormsFor, RefusesForms, SetForms}
 use Rattle.tcel_tool.specs.Stage.{Call, Stage}
 use Rattle.tcel_tool.specs.TargetText.{GivesCosts, RefusesTarget}
 use Rattle.tcel_tool.specs.Test.{Test}
 use Rattle.tcel_tool.specs.Test as tests
 use Rattle.tcel_tool.specs.TimelineCommand as timeline
+use Rattle.tcel_tool.specs.TrialCommand as trial
 use Rattle.tcel_tool.specs.declared.command.Command.{Command}
-use Rattle.tcel_tool.specs.declared.command.Command.TheVariants.{Compile, Run, Format, Check, Mean, Analyse, Timeline, Fewest, Make}
+use Rattle.tcel_tool.specs.declared.command.Command.TheVariants.{Compile, Run, Format, Check, Mean, Analyse, Timeline, Fewest, Make, Trial}
 use Rattle.tcel_tool.specs.declared.command.Slot.{Slot}
 use Rattle.tcel_tool.specs.declared.status.Status.{Status}
 
@@ -36,6 +37,7 @@ name_of Analyse = analyse.name
 name_of Timeline = timeline.name
 name_of Fewest = fewest.name
 name_of Make = make.name
+name_of Trial = trial.name
 
 abbrev pub slots_of : Command → List Slot
 slots_of Compile = compile.slots
@@ -47,6 +49,7 @@ slots_of Analyse = analyse.slots
 slots_of Timeline = timeline.slots
 slots_of Fewest = fewest.slots
 slots_of Make = make.slots
+slots_of Trial = trial.slots
 
 abbrev pub stages_of : Command → List Stage
 stages_of Compile = compile.stages
@@ -58,6 +61,7 @@ stages_of Analyse = analyse.stages
 stages_of Timeline = timeline.stages
 stages_of Fewest = fewest.stages
 stages_of Make = make.stages
+stages_of Trial = trial.stages
 
 -- what a command writes to its output, in pieces, each by one put
 abbrev pub IsText : Command → Call → List (List ℕ) → Type 0
@@ -70,11 +74,13 @@ IsText Analyse = analyse.IsText
 IsText Timeline = timeline.IsText
 IsText Fewest = fewest.IsText
 IsText Make = make.IsText
+IsText Trial = trial.IsText
 
 -- what passes a test
 abbrev pub Passes : Test → Call → Type 0
 Passes tests.target call = (costs : Costs) × GivesCosts (call.read 2) costs
 Passes tests.choice call = (choice : Choice) × IsChoiceFor (call.read 1) (call.read 2) choice
+Passes tests.unit_choice call = (choice : Choice) × IsUnitChoice (call.read 1) choice
 Passes tests.image call = (given : Image) × run.IsImageIn (call.read 1) given
 Passes tests.script call = (given : Image) × (streams : Streams) × run.Runs (call.read 1) (call.read 2) given streams
 Passes tests.program call = (tasks : List Task) × IsProgramText (call.read 1) tasks
@@ -87,6 +93,7 @@ Passes tests.forms call = (forms : SetForms) × AreFormsFor (call.read 1) (call.
 abbrev pub Refuses : Test → Call → Status → Type 0
 Refuses tests.target call = RefusesTarget (call.read 2)
 Refuses tests.choice call = RefusesChoice (call.read 1) (call.read 2)
+Refuses tests.unit_choice call = RefusesUnitChoice (call.read 1)
 Refuses tests.image call = run.RefusesImage (call.read 1)
 Refuses tests.script call = run.RefusesScript (call.read 1) (call.read 2)
 Refuses tests.program call = RefusesText (call.read 1)
@@ -98,6 +105,7 @@ Refuses tests.forms call = RefusesForms (call.read 1) (call.read 2)
 -- where the status of a test's refusal tells a task, this is its name
 abbrev pub Names : Test → Call → Status → Option (List ℕ) → Type 0
 Names tests.choice call status task = NamesTask (call.read 1) status task
+Names tests.unit_choice call status task = NamesTask (call.read 1) status task
 Names tests.forms call status task = NamesTask (call.read 1) status task
 Names _ call status task = Unit {0}
 

@@ -6,6 +6,7 @@ pub mod CommandExamples
 pub mod CommandLine
 pub mod Commands
 pub mod CompileCommand
+pub mod Counting
 pub mod ExitStatus
 pub mod FaultLine
 pub mod FewestCommand
@@ -18,6 +19,7 @@ pub mod SetChoice
 pub mod SetForms
 pub mod TargetText
 pub mod Lines
+pub mod MadeText
 pub mod MakeCommand
 pub mod MeanCommand
 pub mod MeanExamples
@@ -32,6 +34,9 @@ pub mod Spans
 pub mod Stage
 pub mod Stretch
 pub mod StateText
+pub mod Summary
+pub mod SummaryExamples
 pub mod Test
 pub mod TimelineCommand
+pub mod TrialCommand
 pub mod WrittenImages

@@ -30,8 +30,12 @@ slots = File ∷ File ∷ Number ∷ []
 abbrev pub run_limit : ℕ
 run_limit = 16777216
 
+-- the most ticks of a run
+abbrev pub most_ticks : ℕ
+most_ticks = 10000000
+
 abbrev pub stages : List Stage
-stages = bound Ticks 3 10000000 ∷ load 1 run_limit ∷ test tests.image ∷ load 2 script_limit ∷ test tests.script ∷ []
+stages = bound Ticks 3 most_ticks ∷ load 1 run_limit ∷ test tests.image ∷ load 2 script_limit ∷ test tests.script ∷ []
 
 -- ---- the image
 

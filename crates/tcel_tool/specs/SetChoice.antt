@@ -10,7 +10,7 @@ use Rattle.tcel_driver.specs.Refusals.{Refuses}
 use Rattle.tcel_driver.specs.declared.refused.Refused.{Refused}
 use Rattle.tcel_driver.specs.declared.refused.Refused.TheVariants as causes
 use Rattle.tcel_num.specs.Plan.{Plan}
-use Rattle.tcel_target.specs.Costs.{CostsInRange}
+use Rattle.tcel_target.specs.Costs.{CostsInRange, unit_costs}
 use Rattle.tcel_target.specs.declared.costs.Costs.{Costs}
 use Rattle.tcel_tree.specs.Language.{Task}
 use Rattle.tcel_tool.specs.CheckCommand.{IsFaultless}
@@ -52,6 +52,14 @@ pub record IsChoiceFor (program target : List ℕ) (c : Choice) : Type 0 where
   pub gives : GivesCosts target c.costs
   pub best : IsBest c
 
+-- that of the set of a program, where each instruction costs one cycle
+pub record IsUnitChoice (program : List ℕ) (c : Choice) : Type 0 where
+  pub tasks : List Task
+  pub faultless : IsFaultless program tasks
+  pub is : c.set ≡ set_of tasks
+  pub unit : c.costs ≡ unit_costs
+  pub best : IsBest c
+
 -- ---- refusals
 
 -- the status for a cause
@@ -75,6 +83,12 @@ pub record RefusesChoice (program target : List ℕ) (status : Status) : Type 0 
   pub costs : Costs
   pub gives : GivesCosts target costs
   pub refused : RefusesSet (set_of tasks) costs status
+
+-- none for the set of a program, where each instruction costs one cycle
+pub record RefusesUnitChoice (program : List ℕ) (status : Status) : Type 0 where
+  pub tasks : List Task
+  pub faultless : IsFaultless program tasks
+  pub refused : RefusesSet (set_of tasks) unit_costs status
 
 -- ---- the task that a status tells
 

@@ -3,6 +3,7 @@
 pub data Test : Type 0 where
   target : Test
   choice : Test
+  unit_choice : Test
   image : Test
   script : Test
   program : Test

@@ -1,6 +1,7 @@
 -- The command `timeline`: what it writes.
 use Rattle.std.specs.Prelude.{ℕ, List, [], ◌∷◌, codes}
 use Rattle.tcel_tool.specs.CommandLine.{number_at}
+use Rattle.tcel_tool.specs.RunCommand.{most_ticks}
 use Rattle.tcel_tool.specs.SetChoice.{Choice, IsChoiceFor, choice_stages}
 use Rattle.tcel_tool.specs.Spans.{AreLines}
 use Rattle.tcel_tool.specs.Stage.{Call, Stage, bound}
@@ -16,7 +17,7 @@ abbrev pub slots : List Slot
 slots = File ∷ File ∷ Number ∷ []
 
 abbrev pub stages : List Stage
-stages = bound Ticks 3 10000000 ∷ choice_stages
+stages = bound Ticks 3 most_ticks ∷ choice_stages
 
 -- a piece for each span of the schedule of the chosen plans, in so many ticks
 pub record IsText (call : Call) (pieces : List (List ℕ)) : Type 0 where

@@ -68,7 +68,7 @@ pub(crate) fn costs_of(alloc: Global, text: &[u8]) -> Result<Costs, Status>
 }
 
 /// The least number of sliced tasks that fits.
-fn choose(
+pub(crate) fn choose(
     alloc: Global,
     set: &Set,
     costs: &Costs,

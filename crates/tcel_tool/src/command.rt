@@ -18,6 +18,7 @@ pub enum Command {
     Timeline,
     Fewest,
     Make,
+    Trial,
 }
 
 /// What a word behind a command's name is: the name of a file, or 1 to 18 decimal digits.
@@ -29,7 +30,7 @@ pub enum Slot {
     Positive,
 }
 
-const COMMANDS: [Command; 9] = [
+const COMMANDS: [Command; 10] = [
     Command::Compile,
     Command::Run,
     Command::Format,
@@ -39,6 +40,7 @@ const COMMANDS: [Command; 9] = [
     Command::Timeline,
     Command::Fewest,
     Command::Make,
+    Command::Trial,
 ];
 
 const MOST_DIGITS: usize = 18;
@@ -57,6 +59,7 @@ impl Command {
             Command::Timeline => "timeline",
             Command::Fewest => "fewest",
             Command::Make => "make",
+            Command::Trial => "trial",
         }
     }
 
@@ -70,6 +73,7 @@ impl Command {
             }
             Command::Format | Command::Check => &[Slot::File],
             Command::Make => &[Slot::Number, Slot::Positive],
+            Command::Trial => &[Slot::Number, Slot::Positive, Slot::Number],
         }
     }
 }

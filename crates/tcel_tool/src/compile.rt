@@ -32,7 +32,7 @@ pub(crate) fn compile<H: Shelf, K: Sink>(
 }
 
 /// The bytes of the image of a choice.
-fn image_bytes(alloc: Global, chosen: &ChosenSet) -> Result<Vec<u8>, NoMemory>
+pub(crate) fn image_bytes(alloc: Global, chosen: &ChosenSet) -> Result<Vec<u8>, NoMemory>
     requires { IsBest (plain_choice chosen.now) }
     ensures { IfOk result (λ bytes. bytes.items ≡ image_bytes (plain_choice chosen.now)) }
 {

@@ -7,9 +7,10 @@ ghost use Rattle.tcel_tool.specs.Answer.{IsDecided};
 ghost use Rattle.tcel_tool.specs.Report.{is_sliced};
 ghost use Rattle.tcel_tool.specs.ReportExamples.{last_sliced, plan_text, wanted_text};
 ghost use Rattle.tcel_tool.specs.CommandExamples.{analyse_line, check_line, compile_line, fewest_line, format_line, late_point, long_hyper};
-ghost use Rattle.tcel_tool.specs.CommandExamples.{make_line, many_cells, many_tasks, mean_line, nothing_told, too_many_made};
+ghost use Rattle.tcel_tool.specs.CommandExamples.{make_line, many_cells, many_tasks, mean_line, nothing_told, too_many_made, trial_line};
 ghost use Rattle.tcel_tool.specs.CommandExamples.{run_line, same_priority, seventeen, sixteen, timeline_line, too_deep, too_many, too_many_frames, unexpected};
 ghost use Rattle.tcel_tool.specs.MeanExamples.{alarm_pieces, alarm_text, both_pieces, both_text};
+ghost use Rattle.tcel_tool.specs.SummaryExamples.{nothing_text, nothing_wanted, shown_text, shown_wanted};
 ghost use Rattle.tcel_tool.specs.Commands.{HasForm, HaveNoForm};
 ghost use Rattle.tcel_tool.specs.FaultLine.{fault_pieces};
 ghost use Rattle.tcel_tool.specs.SpanExamples.{full, full_idle, full_short, full_spans, full_split, idle, idle_lines, idle_spans};
@@ -17,7 +18,7 @@ ghost use Rattle.tcel_tool.specs.SpanExamples.{preempted, preempted_lines, preem
 ghost use Rattle.tcel_tool.specs.Spans.{AreLines, AreSpans};
 ghost use Rattle.tcel_tool.specs.FewestCommand.{IsMany};
 ghost use Rattle.tcel_tool.specs.FewestExamples.{full_text, full_wanted, lower_text, lower_wanted, none_text, none_wanted, thirteen, twelve};
-ghost use Rattle.tcel_tool.specs.declared.command.Command.TheVariants.{Analyse, Check, Compile, Fewest, Format, Make, Mean, Run, Timeline};
+ghost use Rattle.tcel_tool.specs.declared.command.Command.TheVariants.{Analyse, Check, Compile, Fewest, Format, Make, Mean, Run, Timeline, Trial};
 ghost use Rattle.tcel_tool.specs.declared.spans.Span.{Span};
 ghost use Rattle.tcel_tool.specs.declared.status.Status.{Status};
 
@@ -33,6 +34,8 @@ pub fn command_examples()
     ensures fewest { HasForm Fewest fewest_line }
     ensures make { HasForm Make (make_line (codes "016")) }
     ensures no_tasks { HaveNoForm (make_line (codes "00")) }
+    ensures trial { HasForm Trial (trial_line (codes "16") (codes "0")) }
+    ensures nothing_tried { HaveNoForm (trial_line (codes "0") (codes "5")) }
     ensures other_command { HasForm Compile format_line → ⊥ }
     ensures eighteen_digits { HasForm Run (run_line (codes "999999999999999999")) }
     ensures nineteen_digits { HaveNoForm (run_line (codes "1000000000000000000")) }
@@ -54,6 +57,8 @@ pub fn command_examples()
     ensures limit { concat (fault_pieces check_line many_tasks []) ≡ codes "limit: tasks above 16 at 1:116\n" }
     ensures most_frames { IsDecided Mean nothing_told (mean_line (codes "10000")) too_many_frames → ⊥ }
     ensures too_many_frames { IsDecided Mean nothing_told (mean_line (codes "10001")) too_many_frames }
+    ensures tasks_first { IsDecided Trial nothing_told (trial_line (codes "17") (codes "10000001")) too_many_made }
+    ensures then_ticks { IsDecided Trial nothing_told (trial_line (codes "16") (codes "10000001")) too_many }
     ensures most_made { IsDecided Make nothing_told (make_line (codes "16")) too_many_made → ⊥ }
     ensures too_many_made { IsDecided Make nothing_told (make_line (codes "17")) too_many_made }
     ensures made { concat (fault_pieces (make_line (codes "17")) too_many_made []) ≡ codes "limit: made tasks 17 above 16\n" }
@@ -109,4 +114,10 @@ pub fn fewest_examples()
     ensures twelve { IsMany twelve thirteen → ⊥ }
     ensures one_more { IsMany (counter ∷ twelve) thirteen }
     ensures line { concat (fault_pieces fewest_line thirteen []) ≡ codes "limit: fewest tasks 13 above 12\n" }
+{}
+
+/// What `trial` writes of a run's entries, and of none (docs/formats.md).
+pub fn summary_examples()
+    ensures shown { shown_text ≡ shown_wanted }
+    ensures nothing { nothing_text ≡ nothing_wanted }
 {}

@@ -1,4 +1,4 @@
-ghost use Rattle.std.specs.Prelude.{◌≡◌, ◌≤◌, ℕ, IfErr, IfOk, OnOk, length, map, string_bytes};
+ghost use Rattle.std.specs.Prelude.{◌≡◌, ◌≤◌, IfErr, IfOk, OnOk, length, map, string_bytes};
 ghost use Rattle.tcel_core.specs.Parts.{plain_parts};
 ghost use Rattle.tcel_core.specs.Plain.{plain_set};
 ghost use Rattle.tcel_core.specs.Sound.{IsSoundSet};

@@ -56,12 +56,16 @@ mod spans;
 mod stages;
 mod state_text;
 mod status;
+mod summary;
 #[cfg(test)]
 mod tests;
 mod timeline;
 #[cfg(test)]
 mod timeline_tests;
 mod tool;
+mod trial;
+#[cfg(test)]
+mod trial_tests;
 mod writing;
 
 fn main(rt: HostRuntime) -> ExitCode {

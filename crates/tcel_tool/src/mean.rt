@@ -57,7 +57,7 @@ fn put_text<K: Sink>(text: &[u8], frames: u64, out: &mut K) -> Result<(), SinkFa
 }
 
 /// What the bytes of a script say for the inputs of the set.
-fn script_of(alloc: Global, bytes: &[u8], set: &Set) -> Result<Script, Status>
+pub(crate) fn script_of(alloc: Global, bytes: &[u8], set: &Set) -> Result<Script, Status>
     requires short { length bytes.now ≤ 16777216 }
     requires sound { IsSoundSet (plain_set set.now) }
     ensures streams { IfOk result (λ streams. script_of (port_rows (plain_set set.now)) bytes.now ≡ Ok streams) }

@@ -52,7 +52,7 @@ pub(crate) fn run<H: Shelf, K: Sink>(
 }
 
 /// The valid image that the bytes spell.
-fn ready_of(alloc: Global, bytes: &[u8]) -> Result<Ready, Status>
+pub(crate) fn ready_of(alloc: Global, bytes: &[u8]) -> Result<Ready, Status>
     ensures image { IfOk result (IsImageIn bytes.now) }
     ensures refusal { IfErr result (OrMemory (RefusesImage bytes.now)) }
 {

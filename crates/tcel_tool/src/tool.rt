@@ -20,6 +20,7 @@ use crate::mean::mean;
 use crate::run::run;
 use crate::status::Status;
 use crate::timeline::timeline;
+use crate::trial::trial;
 use std::alloc::Global;
 use tcel_io::{Shelf, Sink};
 use tcel_num::Name;
@@ -117,5 +118,6 @@ fn body<H: Shelf, K: Sink>(
         Command::Timeline => timeline(alloc, words, shelf, out, task),
         Command::Fewest => fewest(alloc, words, shelf, out, task),
         Command::Make => make(alloc, words, out),
+        Command::Trial => trial(alloc, words, out, task),
     }
 }

@@ -24,5 +24,8 @@ returns-in-Timeline-clause-goes g c = rw c.in-Timeline.is c.timeline.ensures.goe
 pub returns-in-Fewest-clause-goes : goal.returns-in-Fewest-clause-goes
 returns-in-Fewest-clause-goes g c = rw c.in-Fewest.is c.fewest.ensures.goes
 
+pub returns-in-Trial-clause-goes : goal.returns-in-Trial-clause-goes
+returns-in-Trial-clause-goes g c = rw c.in-Trial.is (c.trial.ensures.goes (g.H.Shelf.seen c.args.shelf.now))
+
 pub returns-in-Make-clause-goes : goal.returns-in-Make-clause-goes
 returns-in-Make-clause-goes g c = rw (c.in-Make.is, c.requires.task) (c.make.ensures.goes (g.H.Shelf.seen c.args.shelf.now))
