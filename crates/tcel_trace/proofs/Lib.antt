@@ -1,2 +1,9 @@
+pub mod Cutting
+pub mod EntryLines
+pub mod ExampleLines
 pub mod Lengths
+pub mod LineTexts
 pub mod Pieces
+pub mod StateTexts
+pub mod TraceTexts
+pub mod WordTexts

@@ -349,3 +349,73 @@ fn whole_traces(rt: HostRuntime) -> Result<(), Fail> {
     }
     Ok(())
 }
+
+const RUN: &[u8] =
+    b"1 t 0 receive s 5\n3 t 0 send o -5\n8 t 0 first\n9 t 0 end n=1 a=[0,-2] b=true\n";
+
+/// What a line of the task `t` and its frame 0 shows, as words.
+fn shown<'a>(line: &'a TraceLine) -> (u64, &'static str, &'a [u8], i64) {
+    match &line.what {
+        LineWhat::Receive { port, value } => (line.time, "receive", port.bytes(), *value),
+        LineWhat::Send { port, value } => (line.time, "send", port.bytes(), *value),
+        LineWhat::First => (line.time, "first", b"", 0),
+        LineWhat::End { state } => (line.time, "end", state.bytes(), 0),
+    }
+}
+
+#[test]
+fn lines_of_a_text(rt: HostRuntime) -> Result<(), Fail> {
+    let lines = read_trace(rt.alloc(), RUN)?;
+    assert_eq!(rt; lines.len(), 4);
+    for line in lines.iter() {
+        assert_eq!(rt; line.task.bytes(), b"t".as_slice());
+        assert_eq!(rt; line.frame, 0);
+    }
+    assert_eq!(rt; shown(&lines[0]), (1, "receive", b"s".as_slice(), 5));
+    assert_eq!(rt; shown(&lines[1]), (3, "send", b"o".as_slice(), -5));
+    assert_eq!(rt; shown(&lines[2]), (8, "first", b"".as_slice(), 0));
+    assert_eq!(rt;
+        shown(&lines[3]),
+        (9, "end", b" n=1 a=[0,-2] b=true".as_slice(), 0)
+    );
+    assert_eq!(rt; read_trace(rt.alloc(), b"")?.len(), 0);
+    Ok(())
+}
+
+/// Texts that are no trace, and the first line of each that isn't one.
+const NO_TRACES: [(&[u8], u32); 22] = [
+    (b"x", 1),
+    (b"\n", 1),
+    (b" \n", 1),
+    (b"8 t 0 first", 1),
+    (b"8 t 0 first\n9 t 0 end n=1", 2),
+    (b"8 t 0 first\n\n9 t 0 end n=1\n", 2),
+    (b"8 t 0 first\r\n", 1),
+    (b"08 t 0 first\n", 1),
+    (b"+8 t 0 first\n", 1),
+    (b"18446744073709551616 t 0 first\n", 1),
+    (b"8 t 18446744073709551616 first\n", 1),
+    (b"8  t 0 first\n", 1),
+    (b"8 t 0 first \n", 1),
+    (b"8 to 0 first\n", 1),
+    (b"8 t 0 last\n", 1),
+    (b"1 t 0 receive s -0\n", 1),
+    (b"1 t 0 receive s 9223372036854775808\n", 1),
+    (b"1 t 0 send o -9223372036854775809\n", 1),
+    (b"1 t 0 send 5\n", 1),
+    (b"9 t 0 end n=\n", 1),
+    (b"9 t 0 end a=[]\n", 1),
+    (b"9 t 0 end a=[1,02]\n", 1),
+];
+
+#[test]
+fn bytes_that_are_no_trace(rt: HostRuntime) -> Result<(), Fail> {
+    for (bytes, line) in NO_TRACES {
+        assert!(rt; bytes.len() <= 100);
+        assert_eq!(rt;
+            read_trace(rt.alloc(), bytes).err(),
+            Some(TraceFail::BadTrace { line })
+        );
+    }
+    Ok(())
+}

@@ -1,0 +1,12 @@
+use Rattle.std.proofs.Common.{rules, tests}
+use Rattle.std.proofs.lemmas.Iterator.Search.{all_from_yields_List}
+use Rattle.std.proofs.lemmas.Iterator.Splits.{YieldsList-from_slice_split}
+use Rattle.std.specs.Prelude.{◌==◌}
+use Rattle.tcel_trace.specs.Reading.{is_state}
+use Rattle.tcel_trace.proofs.read_states.all_states.Goals as goal
+
+pub returns : goal.returns
+returns c =
+    all_from_yields_List is_state _ _ _ c.all.ensures.ran
+    (YieldsList-from_slice_split _ (λ b. b == 32) c.args.bytes.now c.split.ensures.rest c.split.ensures.done c.split.ensures.closure
+    (λ x r q k. search (rules, tests))) (λ x b q k. search (rules, tests))
