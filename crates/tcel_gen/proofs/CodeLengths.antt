@@ -11,6 +11,7 @@ use Rattle.tcel_core.specs.Language.{Expr, number, variable, element, unary, bin
 use Rattle.tcel_core.specs.Limits.{act_nodes, expr_nodes, nodes, stmt_nodes}
 use Rattle.tcel_core.specs.Numbering.{item_numbers, numbers_from}
 use Rattle.tcel_core.specs.Parts.{copies, copy_of, fetches, first_of_block, first_of_stmt, first_part, has_rest, inside_number, is_split, live_variables, number_of, renamed_act, renamed_block, renamed_expr, renamed_stmt, rest_of_block, rest_of_stmt, restores, saved, saves, split_choice, truth_of, variables}
+use Rattle.tcel_gen.specs.Sizes.{act_size, size, stmt_size}
 use Rattle.tcel_core.specs.Paths.{Point, at_item, points, stmt_points}
 use Rattle.tcel_core.specs.Uses.{act_writes, block_writes, stmt_writes}
 use Rattle.tcel_image.specs.declared.image.Instr.TheVariants.{Arith, Branch, GetAt, Jump, Loop, Mark, End, Put, PutAt, Send}
@@ -20,27 +21,6 @@ use Rattle.tcel_parts.proofs.Members.{In, in_left, in_right}
 use Rattle.tcel_parts.proofs.OwnNames.{live_writes}
 use Rattle.tcel_code.specs.Code.{act_code, at, block_code, branches_code, expr_code, frame_code, held_length, hold_code, stmt_code}
 use Rattle.tcel_code.specs.Counters.{Counters, behind, counter_of, in_order}
-
--- ---- the most lines of statements
-
-abbrev mutual
-  pub size : Block → ℕ
-  size done = 0
-  size (next s rest) = stmt_size s + size rest
-
-  pub stmt_size : Stmt → ℕ
-  stmt_size (item id act) = act_size act
-  stmt_size (choice id test held other) = expr_nodes test + 2 + size held + size other
-  stmt_size (timed id window body) = 1 + size body
-
-  pub act_size : Act → ℕ
-  act_size (assign v e) = expr_nodes e + 1
-  act_size (assign_at v i e) = expr_nodes i + expr_nodes e + 1
-  act_size (receive v port) = 1
-  act_size (send e port) = expr_nodes e + 1
-  act_size (for_loop v turns body) = 5 + size body
-  act_size (while_loop test turns body) = 4 + expr_nodes test + size body
-  act_size (copy a b) = 1
 
 pub expr_long : (e : Expr) (vars : List Var) (depth : ℕ) → length (expr_code e vars depth) ≡ expr_nodes e
 expr_long (number n) vars depth = refl

@@ -35,7 +35,8 @@ use Rattle.tcel_code.proofs.Counters.{own_counters}
 use Rattle.tcel_code.proofs.SliceForms.{slices_mean}
 use Rattle.tcel_code.proofs.StateWords.{states_words}
 use Rattle.tcel_gen.specs.Generated.{FormsAreReady, IsShort}
-use Rattle.tcel_gen.proofs.CodeLengths.{block_small, fewer, frame_short, parts_small, size}
+use Rattle.tcel_gen.proofs.CodeLengths.{block_small, fewer, frame_short, parts_small}
+use Rattle.tcel_gen.specs.Sizes.{size}
 use Rattle.tcel_gen.proofs.PartsReady.{IsPart, body_sits, first_part_is, part_done, rest_is}
 use Rattle.tcel_gen.proofs.Sits.{number_fits}
 use Rattle.tcel_gen.proofs.TaskNames.{HasNames, name_of, names_of}

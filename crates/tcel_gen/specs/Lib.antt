@@ -4,3 +4,4 @@ pub mod Firsts
 pub mod Codable
 pub mod Seen
 pub mod Halved
+pub mod Sizes

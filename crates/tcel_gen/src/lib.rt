@@ -10,6 +10,7 @@ mod laws;
 mod lines;
 mod pieces;
 mod places;
+mod sizes;
 mod task;
 #[cfg(test)]
 mod tests;

@@ -18,6 +18,7 @@ use crate::code::push_body;
 use crate::firsts::Firsts;
 use crate::lines::push_line;
 use crate::places::{Places, words_of};
+use crate::sizes::{add_size, more};
 use sqlite_items::Items;
 use std::alloc::Global;
 use tcel_core::{Body, CoreTask, Keep, Parts, Var, VarKind};
@@ -103,7 +104,8 @@ fn frame_code(
     requires rest { IsCodable (plain_body rest.now) }
     ensures { IfOk result (λ code. code ≡ frame_code (plain_body first.now) (plain_body rest.now) cells.now.places (counters_of (plain_body cells.now.firsts) cells.now.places)) }
 {
-    let mut code = Items::new(alloc);
+    let lines = more(add_size(rest, add_size(first, 0)?)?, 2)?;
+    let mut code = Items::from_vec(Vec::with_capacity(alloc, lines)?);
     push_body(cells, first, false, 0, &mut code)?;
     push_line(0, Instr::Mark, &mut code)?;
     push_body(cells, rest, false, 0, &mut code)?;
