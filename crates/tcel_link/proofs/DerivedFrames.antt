@@ -103,17 +103,17 @@ module _ (tasks : List Task) (links : List Link) (streams : Streams) (ticks numb
 
   -- ---- frame by frame
 
-  abbrev release : ℕ → ℕ
+  abbrev pub release : ℕ → ℕ
   release f = f * task.period
 
-  counts : (f : ℕ) → length (before (release f)) * task.period ≡ release f
+  pub counts : (f : ℕ) → length (before (release f)) * task.period ≡ release f
   counts zero = let none : release 0 ≡ 0 = zero-mul task.period in ap (λ t. length (before t) * task.period) none ∙ zero-mul task.period ∙ sym none
   counts (suc f) =
       let more : release (suc f) ≡ release f + task.period = suc-mul f task.period in
       ap (λ t. length (before t) * task.period) more ∙ ap (λ (fs : List Ran). length fs * task.period) (next_release tasks links streams number (release f) often (counts f))
       ∙ suc-mul (length (before (release f))) task.period ∙ ap (λ t. t + task.period) (counts f) ∙ sym more
 
-  one_more : (f : ℕ) → before (release (suc f)) ≡ at_time tasks links streams number (release f) ∷ before (release f)
+  pub one_more : (f : ℕ) → before (release (suc f)) ≡ at_time tasks links streams number (release f) ∷ before (release f)
   one_more f = ap before (suc-mul f task.period) ∙ next_release tasks links streams number (release f) often (counts f)
 
   -- a frame over what is left of the derived streams

@@ -1,3 +1,5 @@
+pub mod Alike
+pub mod Carrying
 pub mod DerivedFrames
 pub mod Ends
 pub mod Halves
@@ -5,6 +7,7 @@ pub mod History
 pub mod Holding
 pub mod KeptInputs
 pub mod Leads
+pub mod LinkedTraces
 pub mod NextFrames
 pub mod Ports
 pub mod Reading

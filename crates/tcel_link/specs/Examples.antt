@@ -6,6 +6,7 @@ use Rattle.tcel_core.specs.Examples.{counter_vars, one, plus}
 use Rattle.tcel_core.specs.Language.{Block, Expr, Task, assign, binary, choice, done, for_loop, item, next, number, receive, send, variable}
 use Rattle.tcel_core.specs.Sound.{HasSoundBody}
 use Rattle.tcel_num.specs.declared.op.Op.TheVariants.{Equal}
+use Rattle.tcel_num.specs.Entry.{Entry, What, receive as receive_of, send as send_of}
 use Rattle.tcel_link.specs.declared.link.Link.{Link}
 use Rattle.tcel_script.specs.Script.{Streams}
 
@@ -104,3 +105,22 @@ text lines = flat_map (λ line. line ++ 10 ∷ []) lines
 -- a checked task can have this body
 abbrev pub IsSoundOver : Block → Type 0
 IsSoundOver body = HasSoundBody (task_over (codes "p") 1 1 1 body)
+
+-- ---- a trace of p, which counts, and c, which passes on
+
+abbrev pub shown_at : ℕ → ℕ → ℕ → What → Entry
+shown_at time task frame what = record { time = time; task = task; frame = frame; what = what }
+
+-- what their first two frames show, up to c's second receive
+abbrev pub first_frame : List Entry
+first_frame = shown_at 6 0 0 (send_of 0 (pos 1)) ∷ shown_at 9 1 0 (receive_of 0 (pos 0)) ∷ shown_at 11 1 0 (send_of 1 (pos 0)) ∷ []
+
+abbrev pub second_receive : ℤ → List Entry
+second_receive value = shown_at 29 1 1 (receive_of 0 value) ∷ []
+
+abbrev pub passed_trace : ℤ → List Entry
+passed_trace value = first_frame ++ shown_at 26 0 1 (send_of 0 (pos 2)) ∷ second_receive value
+
+-- a task that has no values
+abbrev pub no_values : Streams
+no_values = streams (([], []) ∷ ([], []) ∷ [])

@@ -7,3 +7,4 @@ pub mod Linked
 pub mod Links
 pub mod Receives
 pub mod Runs
+pub mod Traces

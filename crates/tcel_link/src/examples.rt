@@ -1,6 +1,7 @@
 ghost use Rattle.std.specs.Prelude.{◌≡◌, [], ◌∷◌, codes, pos, Ok, Err, true, false};
 ghost use Rattle.tcel_link.specs.Examples.{consumer, counting, doubling, echoing, last_task, link, looping, moved, passed_on, passing, producer};
-ghost use Rattle.tcel_link.specs.Examples.{sending_once, streams, text, twice, two_tasks};
+ghost use Rattle.tcel_link.specs.Examples.{no_values, passed_trace, second_receive, sending_once, streams, text, twice, two_tasks};
+ghost use Rattle.tcel_link.specs.Traces.{IsExplained, carried_by};
 ghost use Rattle.tcel_core.specs.declared.event.EventKind.TheVariants.{Receive, Send};
 ghost use Rattle.tcel_link.specs.Conditions.{FitsInputs, IsInRange, LeadApart};
 ghost use Rattle.tcel_link.specs.Receives.{receives, receives_in_loop};
@@ -87,4 +88,20 @@ pub fn linked_examples()
     ensures chain { derived (producer 10 10 counting ∷ consumer 10 10 passing ∷ last_task 10 10 passing ∷ []) (link 0 0 1 0 ∷ link 1 1 2 0 ∷ [])
         (streams (([], []) ∷ ([], []) ∷ ([], []) ∷ [])) 30
         ≡ streams (([], []) ∷ (pos 0 ∷ pos 1 ∷ pos 2 ∷ [], []) ∷ (pos 0 ∷ pos 0 ∷ pos 1 ∷ [], []) ∷ []) }
+{}
+
+/// What traces show as sent and as received: p sends 1 in its frame from 0, and 2 in the one from 20, each by
+/// the frame's deadline, 20 ticks on (docs/language.md, "Linked tasks").
+pub fn trace_examples()
+    ensures none { carried_by passed_on (link 0 0 1 0) 19 (passed_trace (pos 1)) ≡ [] }
+    ensures one { carried_by passed_on (link 0 0 1 0) 39 (passed_trace (pos 1)) ≡ pos 1 ∷ [] }
+    ensures both { carried_by passed_on (link 0 0 1 0) 40 (passed_trace (pos 1)) ≡ pos 1 ∷ pos 2 ∷ [] }
+    ensures other { carried_by passed_on (link 0 1 1 0) 40 (passed_trace (pos 1)) ≡ [] }
+    ensures explained { IsExplained passed_on (link 0 0 1 0 ∷ []) no_values (passed_trace (pos 1)) (second_receive (pos 1)) (link 0 0 1 0) 20 (pos 1) }
+    // The value that p sent at 26 isn't what c receives at 29.
+    ensures too_new { ¬ (IsExplained passed_on (link 0 0 1 0 ∷ []) no_values (passed_trace (pos 2)) (second_receive (pos 2)) (link 0 0 1 0) 20 (pos 2)) }
+    // A trace that doesn't show what was sent explains nothing.
+    ensures not_shown { ¬ (IsExplained passed_on (link 0 0 1 0 ∷ []) no_values (second_receive (pos 0)) (second_receive (pos 0)) (link 0 0 1 0) 20 (pos 0)) }
+    // Nor does one that shows it behind the receive.
+    ensures behind { ¬ (IsExplained passed_on (link 0 0 1 0 ∷ []) no_values (passed_trace (pos 1)) (passed_trace (pos 1)) (link 0 0 1 0) 20 (pos 1)) }
 {}

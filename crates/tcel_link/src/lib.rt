@@ -12,9 +12,9 @@ mod receives;
 mod resolving;
 mod run;
 
-pub use examples::{condition_examples, link_examples, linked_examples};
+pub use examples::{condition_examples, link_examples, linked_examples, trace_examples};
 pub use fail::LinkFail;
-pub use laws::linked_laws;
+pub use laws::{linked_laws, linked_traces_meet};
 pub use link::{Link, Links};
 pub use read::read_links;
 pub use resolving::resolve;
