@@ -7,6 +7,9 @@ use Rattle.tcel_tool.specs.Answer.{Agrees, Decides, Ended, Goes, Loads, with_rea
 use Rattle.tcel_tool.specs.CommandLine.{word_at}
 use Rattle.tcel_tool.specs.CheckCommand.{status_at}
 use Rattle.tcel_tool.specs.Commands.{IsText, Refuses}
+use Rattle.tcel_tool.specs.JudgeCommand.{RefusesTrace}
+use Rattle.tcel_core.specs.Language as core
+use Rattle.tcel_tool.specs.LinkedCommand.{RefusesLinkLines}
 use Rattle.tcel_tool.specs.ProgramText.{IsDeep, IsLexical}
 use Rattle.tcel_tool.specs.RunCommand.{RefusesImage}
 use Rattle.tcel_tool.specs.ScriptText.{RefusesLines}
@@ -62,6 +65,22 @@ script_refusal ports lines statuses.NoMemory h = absurd h
 script_refusal ports lines (statuses.ReadFault word) h = absurd h
 script_refusal ports lines _ h = refl
 
+trace_refusal : (bytes : List ℕ) (status : Status) → RefusesTrace bytes status → IsTrue (is_refusal status)
+trace_refusal bytes statuses.Ok h = absurd h
+trace_refusal bytes statuses.Words h = absurd h
+trace_refusal bytes statuses.WriteFault h = absurd h
+trace_refusal bytes statuses.NoMemory h = absurd h
+trace_refusal bytes (statuses.ReadFault word) h = absurd h
+trace_refusal bytes _ h = refl
+
+link_refusal : (set : List core.Task) (lines : List ℕ) (status : Status) → RefusesLinkLines set lines status → IsTrue (is_refusal status)
+link_refusal set lines statuses.Ok h = absurd h
+link_refusal set lines statuses.Words h = absurd h
+link_refusal set lines statuses.WriteFault h = absurd h
+link_refusal set lines statuses.NoMemory h = absurd h
+link_refusal set lines (statuses.ReadFault word) h = absurd h
+link_refusal set lines _ h = refl
+
 lexical_refusal : (fail : LexFail) (status : Status) → IsLexical fail status → IsTrue (is_refusal status)
 lexical_refusal (lex.BadByte at) status h = becomes status _ h refl
 lexical_refusal (lex.BadNumber at) status h = becomes status _ h refl
@@ -95,9 +114,12 @@ refusal tests.program call status (inl h) = lexical_refusal h.0 status h.1
 refusal tests.program call status (inr (tokens, lexed, inl h)) = becomes status _ h.1 refl
 refusal tests.program call status (inr (tokens, lexed, inr h)) = deep_refusal h.0 h.1 status h.2
 refusal tests.faultless call status (tasks, program, (mark, is, first)) = mark_refusal mark.at mark.row status is
-refusal tests.inputs call status (tasks, faultless, refuses) = script_refusal (set_rows (set_of tasks)) (call.read 2) status refuses
+refusal (tests.inputs word) call status (tasks, faultless, refuses) = script_refusal (set_rows (set_of tasks)) (call.read word) status refuses
+refusal tests.links call status (tasks, faultless, refuses) = link_refusal (set_of tasks) (call.read 3) status refuses
 refusal tests.few call status (tasks, faultless, (is, many)) = becomes status _ is refl
 refusal tests.forms call status h = cause_refusal h.refused.0 status h.refused.1 h.refused.2
+refusal tests.trace call status h = trace_refusal (call.read 4) status h
+refusal tests.verdict call status h = becomes status _ h.1 refl
 
 no_refusal : (what : Test) (call : Call) (status given : Status) → Refuses what call status → status ≡ given → is_refusal given ≡ false → ⊥
 no_refusal what call status given h e none = let is : is_refusal status ≡ true = refusal what call status h in let same : is_refusal status ≡ is_refusal given = ap is_refusal e in cc

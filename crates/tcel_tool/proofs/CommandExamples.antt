@@ -8,13 +8,17 @@ use Rattle.tcel_check.specs.Marks.{limit, precedes}
 use Rattle.tcel_check.specs.declared.fail.LimitKind.TheVariants.{Tasks}
 use Rattle.tcel_check.specs.declared.mark.Mark.{Mark}
 use Rattle.tcel_tool.specs.CheckCommand.{RefusesTasks}
-use Rattle.tcel_tool.specs.CommandExamples.{check_line, compile_line, format_line, late_point, long_hyper, make_line, many_cells, many_tasks, mean_line, same_priority, seventeen, sixteen, too_deep, too_many_frames, too_many_made, unexpected}
+use Rattle.tcel_tool.specs.CommandExamples.{again, check_line, compile_line, format_line, late_point, linked_line, long_hyper, make_line, many_cells, many_tasks, mean_line, same_priority, seventeen, sixteen, too_deep, too_many_frames, too_many_made, unexpected}
 use Rattle.tcel_tool.specs.FaultLine.{fault_pieces}
 use Rattle.tcel_tool.specs.declared.status.Status.{Status}
 
 pub unexpected_line : concat (fault_pieces format_line unexpected []) ≡ codes "program 1:38: unexpected token\n"
 unfolding digits
 unexpected_line = refl
+
+pub again_line : concat (fault_pieces (linked_line (codes "40")) again []) ≡ codes "links 2: input twice\n"
+unfolding digits
+again_line = refl
 
 pub deep_line : concat (fault_pieces format_line too_deep []) ≡ codes "limit: operators above 64 at 12:304\n"
 unfolding digits

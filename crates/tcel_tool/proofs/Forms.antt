@@ -12,7 +12,7 @@ use Rattle.tcel_script.specs.Numbers.{magnitude}
 use Rattle.tcel_tool.specs.Commands.{HasForm, HaveNoForm, name_of}
 use Rattle.tcel_tool.specs.declared.command.Slot.{Slot}
 use Rattle.tcel_tool.specs.declared.command.Command.{Command}
-use Rattle.tcel_tool.specs.declared.command.Command.TheVariants.{Compile, Run, Format, Check, Mean, Analyse, Timeline, Fewest, Make, Trial}
+use Rattle.tcel_tool.specs.declared.command.Command.TheVariants.{Compile, Run, Format, Check, Mean, Analyse, Timeline, Linked, Fewest, Make, Trial, Judge}
 
 -- no two commands have one name
 abbrev command_named : List ℕ → Command
@@ -22,8 +22,9 @@ command_named word =
     else (if pointwise nat_eq word (name_of Format) then Format
     else (if pointwise nat_eq word (name_of Check) then Check
     else (if pointwise nat_eq word (name_of Mean) then Mean else (if pointwise nat_eq word (name_of Analyse) then Analyse
-    else (if pointwise nat_eq word (name_of Timeline) then Timeline else (if pointwise nat_eq word (name_of Fewest) then Fewest
-    else (if pointwise nat_eq word (name_of Make) then Make else Trial))))))))
+    else (if pointwise nat_eq word (name_of Timeline) then Timeline else (if pointwise nat_eq word (name_of Linked) then Linked
+    else (if pointwise nat_eq word (name_of Fewest) then Fewest else (if pointwise nat_eq word (name_of Make) then Make
+    else (if pointwise nat_eq word (name_of Judge) then Judge else Trial))))))))))
 
 named : (command : Command) → command_named (name_of command) ≡ command
 named Compile = refl
@@ -33,9 +34,11 @@ named Check = refl
 named Mean = refl
 named Analyse = refl
 named Timeline = refl
+named Linked = refl
 named Fewest = refl
 named Make = refl
 named Trial = refl
+named Judge = refl
 
 one_name : (a b : Command) → name_of a ≡ name_of b → a ≡ b
 one_name a b e = sym (named a) ∙ ap command_named e ∙ named b
@@ -47,7 +50,7 @@ one_form (first ∷ words) a b h k = one_name a b (sym h.0 ∙ k.0)
 
 -- words that have the form of none of these have the form of none
 pub of_none : (words : List (List ℕ)) →
-    AllByRecursion (λ (command : Command). ¬ HasForm command words) (Compile ∷ Run ∷ Format ∷ Check ∷ Mean ∷ Analyse ∷ Timeline ∷ Fewest ∷ Make ∷ Trial ∷ []) →
+    AllByRecursion (λ (command : Command). ¬ HasForm command words) (Compile ∷ Run ∷ Format ∷ Check ∷ Mean ∷ Analyse ∷ Timeline ∷ Linked ∷ Fewest ∷ Make ∷ Trial ∷ Judge ∷ []) →
     HaveNoForm words
 of_none words none Compile = none.0
 of_none words none Run = none.1.0
@@ -56,9 +59,11 @@ of_none words none Check = none.1.1.1.0
 of_none words none Mean = none.1.1.1.1.0
 of_none words none Analyse = none.1.1.1.1.1.0
 of_none words none Timeline = none.1.1.1.1.1.1.0
-of_none words none Fewest = none.1.1.1.1.1.1.1.0
-of_none words none Make = none.1.1.1.1.1.1.1.1.0
-of_none words none Trial = none.1.1.1.1.1.1.1.1.1.0
+of_none words none Linked = none.1.1.1.1.1.1.1.0
+of_none words none Fewest = none.1.1.1.1.1.1.1.1.0
+of_none words none Make = none.1.1.1.1.1.1.1.1.1.0
+of_none words none Trial = none.1.1.1.1.1.1.1.1.1.1.0
+of_none words none Judge = none.1.1.1.1.1.1.1.1.1.1.1.0
 
 both : (a b : Bool) → IsTrue (a && b) → IsTrue a × IsTrue b
 both true b h = (refl, h)
@@ -77,6 +82,23 @@ ticks_are_a_number words h = third_is_number (name_of Run) words h
 
 pub frames_are_a_number : (words : List (List ℕ)) → HasForm Mean words → IsTrue (is_number (word_at words 3))
 frames_are_a_number words h = third_is_number (name_of Mean) words h
+
+-- the fifth word behind four files
+fifth_is_number : (name : List ℕ) (words : List (List ℕ)) → AreWords name (Slot.File ∷ Slot.File ∷ Slot.File ∷ Slot.File ∷ Slot.Number ∷ []) words
+    → IsTrue (is_number (word_at words 5))
+fifth_is_number own [] h = absurd h
+fifth_is_number own (name ∷ []) h = absurd (let e = h.1 in cc)
+fifth_is_number own (name ∷ a ∷ []) h = absurd (let e = h.1 in cc)
+fifth_is_number own (name ∷ a ∷ b ∷ []) h = absurd (let e = h.1 in cc)
+fifth_is_number own (name ∷ a ∷ b ∷ c ∷ []) h = absurd (let e = h.1 in cc)
+fifth_is_number own (name ∷ a ∷ b ∷ c ∷ d ∷ []) h = absurd (let e = h.1 in cc)
+fifth_is_number own (name ∷ a ∷ b ∷ c ∷ d ∷ e ∷ words) h = (both (is_number e) (fit [] words) h.1).0
+
+pub judged_ticks_are_a_number : (words : List (List ℕ)) → HasForm Judge words → IsTrue (is_number (word_at words 5))
+judged_ticks_are_a_number words h = fifth_is_number (name_of Judge) words h
+
+pub linked_ticks_are_a_number : (words : List (List ℕ)) → HasForm Linked words → IsTrue (is_number (word_at words 5))
+linked_ticks_are_a_number words h = fifth_is_number (name_of Linked) words h
 
 -- the seed and the number of tasks, which is above 0, behind the name
 seed_and_count : (name : List ℕ) (slots : List Slot) (words : List (List ℕ)) → AreWords name (Slot.Number ∷ Slot.Positive ∷ slots) words

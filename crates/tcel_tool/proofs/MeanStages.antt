@@ -37,7 +37,7 @@ read_program {tasks = tasks} given few loaded same is =
     record { few = few; loaded = loaded; is = subst (λ t. IsProgramText t tasks) same is }
 
 module _ {words : List (List ℕ)} {shelf next : SeenShelf} {text : List ℕ} {tasks : List Task} (end : Ended) (read : ReadProgram words shelf next text tasks) where
-  pub behind_program : Goes Mean end (test tests.faultless ∷ load 2 16777216 ∷ test tests.inputs ∷ []) (with_text words text) next → Goes Mean end (stages_of Mean) (begun words) shelf
+  pub behind_program : Goes Mean end (test tests.faultless ∷ load 2 16777216 ∷ test (tests.inputs 2) ∷ []) (with_text words text) next → Goes Mean end (stages_of Mean) (begun words) shelf
   behind_program rest = inr (read.few, inr (text, next, read.loaded, inr ((tasks, read.is), rest)))
 
   -- a fault of the program is one of the text
@@ -49,11 +49,11 @@ module _ {words : List (List ℕ)} {shelf next : SeenShelf} {text : List ℕ} {t
     abbrev faultless : IsFaultless text tasks
     faultless = record { program = read.is; free = free }
 
-    pub behind_set : Goes Mean end (load 2 16777216 ∷ test tests.inputs ∷ []) (with_text words text) next → Goes Mean end (stages_of Mean) (begun words) shelf
+    pub behind_set : Goes Mean end (load 2 16777216 ∷ test (tests.inputs 2) ∷ []) (with_text words text) next → Goes Mean end (stages_of Mean) (begun words) shelf
     behind_set rest = behind_program (inr ((tasks, faultless), rest))
 
     module _ {last : SeenShelf} {lines : List ℕ} (second : Loads words 2 16777216 next last lines) where
-      pub behind_lines : Goes Mean end (test tests.inputs ∷ []) (with_both words text lines) last → Goes Mean end (stages_of Mean) (begun words) shelf
+      pub behind_lines : Goes Mean end (test (tests.inputs 2) ∷ []) (with_both words text lines) last → Goes Mean end (stages_of Mean) (begun words) shelf
       behind_lines rest = behind_set (inr (lines, last, second, rest))
 
       module _ (set : List core.Task) (set_is : set ≡ set_of tasks) (given : List ℕ) (same : given ≡ lines) where

@@ -32,7 +32,7 @@ plans_long (form ∷ forms) costs [] h = absurd h
 plans_long (form ∷ forms) costs (plan ∷ plans) h = ap (λ n. suc n) (plans_long forms costs plans h.1)
 
 -- each task of a choice has a plan
-one_plan_each : (c : Choice) → IsBest c → length c.plans ≡ length c.set
+pub one_plan_each : (c : Choice) → IsBest c → length c.plans ≡ length c.set
 one_plan_each c best =
     plans_long (forms_of c.sliced c.set c.parts) c.costs c.plans best.chosen.are ∙ forms_long c.sliced c.set c.parts best.chosen.forms.split
 

@@ -17,7 +17,7 @@ use Rattle.tcel_check.specs.Checked.{set_of}
 use Rattle.tcel_check.specs.Marks.{IsFirst}
 use Rattle.tcel_core.specs.Language as core
 use Rattle.tcel_driver.proofs.Chosen.{forbidden}
-use Rattle.tcel_driver.proofs.OneAnswer.{given, made, one_refusal as one_cause}
+use Rattle.tcel_driver.proofs.OneAnswer.{given, made, one_choice, one_refusal as one_cause}
 use Rattle.tcel_driver.specs.Choice.{IsChosen}
 use Rattle.tcel_driver.specs.Forms.{AreForms}
 use Rattle.tcel_check.specs.Rows.{marks}
@@ -49,6 +49,21 @@ use Rattle.tcel_tool.specs.TargetText.{HasFault}
 use Rattle.tcel_tool.specs.ProgramText.{IsDeep, IsGrammatical, IsLexical, IsProgramText, RefusesText}
 use Rattle.tcel_tool.specs.RunCommand.{IsImageIn, RefusesImage, Spells}
 use Rattle.tcel_tool.specs.ScriptText.{RefusesLines}
+use Rattle.tcel_judge.proofs.OneVerdict.{said_once}
+use Rattle.tcel_judge.specs.FirstBreach.{Says as SaysOf, judged_of}
+use Rattle.tcel_judge.specs.declared.verdict.Verdict.{Verdict}
+use Rattle.tcel_judge.specs.declared.verdict.Verdict.TheVariants.{No, Yes}
+use Rattle.tcel_num.specs.Plan.{Plan}
+use Rattle.tcel_trace.proofs.TraceTexts.{bad_once, read_once, read_or_bad}
+use Rattle.tcel_trace.specs.TraceForm.{IsBadAt, IsTrace}
+use Rattle.tcel_trace.specs.declared.trace_fail.TraceFail.TheVariants.{BadTrace}
+use Rattle.tcel_trace.specs.declared.trace_line.TraceLine.{TraceLine}
+use Rattle.tcel_tool.specs.CommandLine.{number_at}
+use Rattle.tcel_tool.specs.JudgeCommand.{IsJudged, RefusesBreach, RefusesTrace}
+use Rattle.tcel_link.specs.declared.fail.LinkFail.{LinkFail}
+use Rattle.tcel_link.specs.declared.link.Link.{Link}
+use Rattle.tcel_link.specs.Links.{links_in}
+use Rattle.tcel_tool.specs.LinkedCommand.{Links, RefusesLinkLines, RefusesLinks}
 use Rattle.tcel_tool.specs.MeanCommand.{Means, RefusesInputs}
 use Rattle.tcel_tool.specs.Stage.{Call}
 use Rattle.tcel_tool.specs.Test.{Test}
@@ -294,6 +309,90 @@ one_input_fault text lines a b (tasks, faultless, refuses) (others, faultless', 
     let same = one_program text tasks others faultless.program faultless'.program in
     one_line (set_rows (set_of others)) lines a b (subst (λ (ts : List trees.Task). RefusesLines (set_rows (set_of ts)) lines a) same refuses) refuses'
 
+-- ---- traces
+
+pub record WhyTrace (bytes : List ℕ) (status : Status) : Type 0 where
+  pub number : ℕ
+  pub is : status ≡ statuses.Trace (BadTrace number)
+  pub bad : IsBadAt bytes number
+
+why_trace : (bytes : List ℕ) (status : Status) → RefusesTrace bytes status → WhyTrace bytes status
+why_trace bytes (statuses.Trace (BadTrace number)) h = record { number = number; is = refl; bad = h }
+why_trace bytes _ h = absurd h
+
+trace_or_bad : (bytes : List ℕ) (lines : List TraceLine) (status : Status) → IsTrace lines bytes → RefusesTrace bytes status → ⊥
+trace_or_bad bytes lines status is h = let why = why_trace bytes status h in read_or_bad lines bytes why.number is why.bad
+
+one_bad_line : (bytes : List ℕ) (a b : Status) → RefusesTrace bytes a → RefusesTrace bytes b → a ≡ b
+one_bad_line bytes a b h k =
+    let one = why_trace bytes a h in
+    let other = why_trace bytes b k in
+    one.is ∙ ap (λ n. statuses.Trace (BadTrace n)) (bad_once bytes one.number other.number one.bad other.bad) ∙ sym other.is
+
+-- ---- verdicts
+
+one_judged : (call : Call) (v w : Verdict) → IsJudged call v → IsJudged call w → v ≡ w
+one_judged call v w h k =
+    let tasks = one_program (call.read 1) h.for.tasks k.for.tasks h.for.faultless.program k.for.faultless.program in
+    let set : h.choice.set ≡ k.choice.set = h.for.is ∙ ap (λ (ts : List trees.Task). set_of ts) tasks ∙ sym k.for.is in
+    let costs = one_costs (call.read 2) h.choice.costs k.choice.costs h.for.gives.text k.for.gives.text in
+    let own = subst (λ (s : List core.Task). IsChosen s h.choice.costs h.choice.sliced h.choice.plans h.choice.parts) set h.for.best.chosen in
+    let chosen = subst (λ (cs : Costs). IsChosen k.choice.set cs h.choice.sliced h.choice.plans h.choice.parts) costs own in
+    let same = one_choice k.choice.set k.choice.costs h.choice.sliced k.choice.sliced h.choice.plans k.choice.plans h.choice.parts k.choice.parts chosen k.for.best.chosen in
+    let read = subst (λ (s : List core.Task). script_of (set_rows s) (call.read 3) ≡ Ok h.streams) set h.streams_in in
+    let streams : h.streams ≡ k.streams = let also = k.streams_in in cc in
+    let lines : h.lines ≡ k.lines = read_once h.lines k.lines (call.read 4) h.lines_in k.lines_in in
+    let ticks = number_at call.words 5 in
+    let of_set = subst (λ (s : List core.Task). SaysOf (judged_of s h.streams) h.choice.plans ticks h.lines v) set h.says in
+    let of_streams = subst (λ (s : Streams). SaysOf (judged_of k.choice.set s) h.choice.plans ticks h.lines v) streams of_set in
+    let of_plans = subst (λ (ps : List Plan). SaysOf (judged_of k.choice.set k.streams) ps ticks h.lines v) same.1 of_streams in
+    let said = subst (λ (ls : List TraceLine). SaysOf (judged_of k.choice.set k.streams) k.choice.plans ticks ls v) lines of_plans in
+    said_once (judged_of k.choice.set k.streams) k.choice.plans ticks k.lines v w said k.says
+
+yes_or_breach : (call : Call) (status : Status) → IsJudged call Yes → RefusesBreach call status → ⊥
+yes_or_breach call status accepted (breach, is, refused) = let e = one_judged call Yes (No breach) accepted refused in cc
+
+one_breach : (call : Call) (a b : Status) → RefusesBreach call a → RefusesBreach call b → a ≡ b
+one_breach call a b (breach, is, refused) (other, is', refused') =
+    let e = one_judged call (No breach) (No other) refused refused' in
+    let same : breach ≡ other = cc in
+    is ∙ ap statuses.Breach same ∙ sym is'
+
+-- ---- links
+
+-- the fault of a line that is told
+pub record WhyLink (set : List core.Task) (lines : List ℕ) (status : Status) : Type 0 where
+  pub fail : LinkFail
+  pub is : status ≡ statuses.Link fail
+  pub read : links_in set lines ≡ Err fail
+
+why_link : (set : List core.Task) (lines : List ℕ) (status : Status) → RefusesLinkLines set lines status → WhyLink set lines status
+why_link set lines (statuses.Link fail) h = record { fail = fail; is = refl; read = h.1 }
+why_link set lines _ h = absurd h
+
+-- a refusal of one program's links is one of the other's
+why_other : (text lines : List ℕ) (tasks others : List trees.Task) (status : Status) → IsFaultless text tasks → IsFaultless text others
+    → RefusesLinkLines (set_of others) lines status → WhyLink (set_of tasks) lines status
+why_other text lines tasks others status is other h =
+    why_link (set_of tasks) lines status
+    (subst (λ (ts : List trees.Task). RefusesLinkLines (set_of ts) lines status) (one_program text others tasks other.program is.program) h)
+
+links_or_refused : (text lines : List ℕ) (tasks : List trees.Task) (links : List Link) (status : Status) → Links text lines tasks links → RefusesLinks text lines status → ⊥
+links_or_refused text lines tasks links status given (others, faultless, refuses) =
+    let why = why_other text lines tasks others status given.faultless faultless refuses in
+    let none = why.read in
+    let found = given.links_in in
+    cc
+
+one_link_fault : (text lines : List ℕ) (a b : Status) → RefusesLinks text lines a → RefusesLinks text lines b → a ≡ b
+one_link_fault text lines a b (tasks, faultless, refuses) (others, faultless', refuses') =
+    let one = why_link (set_of tasks) lines a refuses in
+    let other = why_other text lines tasks others b faultless faultless' refuses' in
+    let first = one.read in
+    let second = other.read in
+    let fail : one.fail ≡ other.fail = cc in
+    one.is ∙ ap statuses.Link fail ∙ sym other.is
+
 -- ---- the tests
 
 pub passes_or_refuses : (what : Test) (call : Call) (status : Status) → Passes what call → Refuses what call status → ⊥
@@ -306,9 +405,12 @@ passes_or_refuses tests.script call status p h =
     read_or_refused (port_rows p.0) (call.read 2) p.1 status p.2.streams_in (subst (λ (i : Image). RefusesLines (port_rows i) (call.read 2) status) same h.2)
 passes_or_refuses tests.program call status p h = text_or_fault (call.read 1) p.0 status p.1 h
 passes_or_refuses tests.faultless call status p h = faultless_or_fault (call.read 1) p.0 status p.1 h
-passes_or_refuses tests.inputs call status p h = inputs_or_refused (call.read 1) (call.read 2) p.0 p.1 status p.2 h
+passes_or_refuses (tests.inputs word) call status p h = inputs_or_refused (call.read 1) (call.read word) p.0 p.1 status p.2 h
+passes_or_refuses tests.links call status p h = links_or_refused (call.read 1) (call.read 3) p.0 p.1 status p.2 h
 passes_or_refuses tests.few call status p h = few_or_many (call.read 1) p.0 status p.1 h
 passes_or_refuses tests.forms call status p h = forms_or_refused (call.read 1) (call.read 2) p.0 status p.1 h
+passes_or_refuses tests.trace call status p h = trace_or_bad (call.read 4) p.0 status p.1 h
+passes_or_refuses tests.verdict call status p h = yes_or_breach call status p h
 
 pub one_refusal : (what : Test) (call : Call) (a b : Status) → Refuses what call a → Refuses what call b → a ≡ b
 one_refusal tests.target call a b h k = h.1 ∙ ap statuses.Target (one_target_fault (call.read 2) h.0 k.0 h.2 k.2) ∙ sym k.1
@@ -320,7 +422,10 @@ one_refusal tests.script call a b h k =
     one_line (port_rows k.0) (call.read 2) a b (subst (λ (i : Image). RefusesLines (port_rows i) (call.read 2) a) same h.2) k.2
 one_refusal tests.program call a b h k = one_text_fault (call.read 1) a b h k
 one_refusal tests.faultless call a b h k = one_program_fault (call.read 1) a b h k
-one_refusal tests.inputs call a b h k = one_input_fault (call.read 1) (call.read 2) a b h k
+one_refusal (tests.inputs word) call a b h k = one_input_fault (call.read 1) (call.read word) a b h k
+one_refusal tests.links call a b h k = one_link_fault (call.read 1) (call.read 3) a b h k
 one_refusal tests.few call a b h k = one_count (call.read 1) a b h k
 one_refusal tests.forms call a b h k =
     one_choice_refusal (call.read 1) (call.read 2) a b (no_choice (call.read 1) (call.read 2) a h) (no_choice (call.read 1) (call.read 2) b k)
+one_refusal tests.trace call a b h k = one_bad_line (call.read 4) a b h k
+one_refusal tests.verdict call a b h k = one_breach call a b h k

@@ -30,7 +30,7 @@ pub made_program : (words : List (List ℕ)) (seed tasks : ℕ) (text given : Li
 made_program words seed tasks text given same is seeds counts = same ∙ is ∙ ap (λ s. program_text s tasks) seeds ∙ ap (program_text (number_at words 1)) counts
 
 abbrev pub after_script : List Stage
-after_script = test tests.inputs ∷ []
+after_script = test (tests.inputs 2) ∷ []
 
 abbrev pub after_set : List Stage
 after_set = test tests.unit_choice ∷ make script 2 ∷ after_script

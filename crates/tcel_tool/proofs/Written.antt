@@ -18,7 +18,7 @@ use Rattle.tcel_verify.specs.Ports.{port_row, port_rows}
 use Rattle.tcel_tool.specs.CompileCommand.{image_bytes}
 use Rattle.tcel_tool.specs.Headline.{KeepsItsPromise, image_for}
 use Rattle.tcel_tool.specs.Answer.{OrMemory}
-use Rattle.tcel_tool.specs.RunCommand.{IsImageIn, RefusesImage, Spells}
+use Rattle.tcel_tool.specs.RunCommand.{IsImageIn, RefusesImage, Runs, Spells}
 use Rattle.tcel_tool.specs.Stage.{Call}
 use Rattle.tcel_tool.specs.Test as tests
 use Rattle.tcel_tool.specs.declared.status.Status.{Status}
@@ -28,7 +28,7 @@ use Rattle.tcel_tool.proofs.TestLaws.{passes_or_refuses}
 use Rattle.tcel_tool.specs.WrittenImages.{RunsOfWrittenImagesMeet, WrittenImagesAreTaken}
 
 -- streams are given without a fault
-given_streams : (fault : Option ScriptFail) (found streams : Streams) → unless_fault fault found ≡ Ok streams → found ≡ streams
+pub given_streams : (fault : Option ScriptFail) (found streams : Streams) → unless_fault fault found ≡ Ok streams → found ≡ streams
 given_streams None found streams e = cc
 given_streams (Some fault) found streams e = absurd cc
 
@@ -50,14 +50,21 @@ never_refused c kept bytes status are (inr refuses) =
     let given : IsImageIn (image_bytes c) (image_for c) = record { spells = record { range = kept.spelled; spelled = refl }; valid = kept.valid } in
     absurd (passes_or_refuses tests.image call status (image_for c, given) (subst (λ b. RefusesImage b status) are refuses))
 
-pub runs_meet : RunsOfWrittenImagesMeet
-runs_meet = λ c kept script given streams ticks runs.
+-- the streams that a script gives to it are those of its set's inputs
+pub streams_had : (c : Choice) (kept : KeepsItsPromise c) (script : List ℕ) (given : Image) (streams : Streams) → Runs (image_bytes c) script given streams
+    → AllZip HasStreams c.set streams
+streams_had c kept script given streams runs =
     let is = same_image c kept given runs.image_in.spells in
     let read = subst (λ (i : Image). script_of (port_rows i) script ≡ Ok streams) (sym is) runs.streams_in in
     let same = given_streams _ (streams_of (port_rows (image_for c)) (script_lines script)) streams read in
     let theirs = subst (λ (s : Streams). AllZip HasStreams (map (λ (f : Form). f.task) (forms_of c.sliced c.set c.parts)) s) same
     (has_streams (forms_of c.sliced c.set c.parts) (script_lines script)) in
-    let meets = kept.runs streams ticks (subst (λ (set : List Task). AllZip HasStreams set streams) kept.tasks theirs) in
+    subst (λ (set : List Task). AllZip HasStreams set streams) kept.tasks theirs
+
+pub runs_meet : RunsOfWrittenImagesMeet
+runs_meet = λ c kept script given streams ticks runs.
+    let is = same_image c kept given runs.image_in.spells in
+    let meets = kept.runs streams ticks (streams_had c kept script given streams runs) in
     subst (λ (i : Image). Meets c.set c.plans streams ticks (trace i streams ticks)) is meets
 
 pub are_taken : WrittenImagesAreTaken

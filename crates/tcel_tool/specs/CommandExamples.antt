@@ -3,13 +3,14 @@ use Rattle.std.specs.Prelude.{ℕ, List, [], ◌∷◌, Option, None, codes}
 use Rattle.tcel_check.specs.Examples.{at, tasks_to}
 use Rattle.tcel_check.specs.declared.fail.CheckKind.TheVariants.{SamePriority}
 use Rattle.tcel_check.specs.declared.fail.LimitKind.TheVariants.{Tasks}
+use Rattle.tcel_link.specs.declared.fail.LinkFail.TheVariants.{InputTwice}
 use Rattle.tcel_num.specs.Plan.{within}
 use Rattle.tcel_tree.specs.Language.{Task}
 use Rattle.tcel_tool.specs.declared.status.CountKind.TheVariants.{Ticks, MadeTasks, MeanFrames}
 use Rattle.tcel_tool.specs.declared.status.LimitFault.TheVariants as limits
 use Rattle.tcel_tool.specs.declared.status.ProgramKind.TheVariants.{Check, Unexpected}
 use Rattle.tcel_tool.specs.declared.status.Status.{Status}
-use Rattle.tcel_tool.specs.declared.status.Status.TheVariants.{Late, Limit, Program}
+use Rattle.tcel_tool.specs.declared.status.Status.TheVariants.{Late, Limit, Link, Program}
 
 -- `run a b`, and the ticks
 abbrev pub run_line : List ℕ → List (List ℕ)
@@ -22,6 +23,10 @@ mean_line frames = codes "mean" ∷ codes "a" ∷ codes "b" ∷ frames ∷ []
 -- `timeline a b`, and the ticks
 abbrev pub timeline_line : List ℕ → List (List ℕ)
 timeline_line ticks = codes "timeline" ∷ codes "a" ∷ codes "b" ∷ ticks ∷ []
+
+-- `linked a b c d`, and the ticks
+abbrev pub linked_line : List ℕ → List (List ℕ)
+linked_line ticks = codes "linked" ∷ codes "a" ∷ codes "b" ∷ codes "c" ∷ codes "d" ∷ ticks ∷ []
 
 -- `compile a b`, `analyse a b`, `fewest a b`, `format a`, `check a`
 abbrev pub compile_line : List (List ℕ)
@@ -62,6 +67,10 @@ too_many_frames = Limit (limits.Count MeanFrames 10001)
 -- one task more than may be made
 abbrev pub too_many_made : Status
 too_many_made = Limit (limits.Count MadeTasks 17)
+
+-- a line of links that leads to an input again
+abbrev pub again : Status
+again = Link (InputTwice 2)
 
 -- a token that begins no program goes on
 abbrev pub unexpected : Status

@@ -17,3 +17,6 @@ exit_status (statuses.Target fail) = 8
 exit_status (statuses.Image fail) = 9
 exit_status (statuses.Flaw flaw) = 9
 exit_status (statuses.Script fail) = 10
+exit_status (statuses.Breach breach) = 12
+exit_status (statuses.Trace fail) = 13
+exit_status (statuses.Link fail) = 11

@@ -1,5 +1,5 @@
 -- The line that tells a refusal, in the pieces in which it is put: the texts, and the words and numbers between them.
-use Rattle.std.specs.Prelude.{ℕ, List, [], ◌∷◌, codes}
+use Rattle.std.specs.Prelude.{ℕ, List, [], ◌∷◌, ◌++◌, codes}
 use Rattle.std.specs.Fmt.{decimal}
 use Rattle.tcel_num.specs.declared.at.At.{At}
 use Rattle.tcel_num.specs.Lateness.{Lateness}
@@ -13,11 +13,19 @@ use Rattle.tcel_image.specs.declared.fault.ImageFail.TheVariants as fails
 use Rattle.tcel_image.specs.declared.flaw.Flaw.{Flaw}
 use Rattle.tcel_image.specs.declared.flaw.FlawKind.{FlawKind}
 use Rattle.tcel_image.specs.declared.flaw.FlawKind.TheVariants as flaws
+use Rattle.tcel_link.specs.declared.fail.LinkFail.{LinkFail}
+use Rattle.tcel_link.specs.declared.fail.LinkFail.TheVariants as links
 use Rattle.tcel_target.specs.declared.fail.TargetFail.{TargetFail}
 use Rattle.tcel_target.specs.declared.fail.TargetFail.TheVariants as targets
 use Rattle.tcel_target.specs.Target.{key_text}
 use Rattle.tcel_script.specs.declared.fail.ScriptFail.{ScriptFail}
 use Rattle.tcel_script.specs.declared.fail.ScriptFail.TheVariants as scripts
+use Rattle.tcel_judge.specs.declared.verdict.Breach.{Breach}
+use Rattle.tcel_judge.specs.declared.verdict.Breach.TheVariants as breaches
+use Rattle.tcel_judge.specs.declared.verdict.Due.{Due}
+use Rattle.tcel_judge.specs.declared.verdict.Due.TheVariants as dues
+use Rattle.tcel_trace.specs.declared.trace_fail.TraceFail.{TraceFail}
+use Rattle.tcel_trace.specs.declared.trace_fail.TraceFail.TheVariants as traces
 use Rattle.tcel_tool.specs.declared.status.Status.{Status}
 use Rattle.tcel_tool.specs.declared.status.Status.TheVariants as statuses
 use Rattle.tcel_tool.specs.declared.status.LimitFault.{LimitFault}
@@ -114,6 +122,36 @@ script_pieces (scripts.PortTwice line) = codes "script " ∷ decimal line ∷ co
 script_pieces (scripts.Number line) = codes "script " ∷ decimal line ∷ codes ": number\n" ∷ []
 script_pieces scripts.NoMemory = codes "no memory\n" ∷ []
 
+-- the first faulty line of a trace
+abbrev pub trace_pieces : TraceFail → List (List ℕ)
+trace_pieces (traces.BadTrace line) = codes "trace " ∷ decimal line ∷ codes ": bad line\n" ∷ []
+trace_pieces traces.NoMemory = codes "no memory\n" ∷ []
+
+-- an entry of a frame that is missing, up to the frame's number
+abbrev pub missing_pieces : Due → List (List ℕ)
+missing_pieces (dues.Event number) = codes "trace: missing event " ∷ decimal number ∷ codes " of frame " ∷ []
+missing_pieces dues.First = codes "trace: missing first of frame " ∷ []
+missing_pieces dues.End = codes "trace: missing end of frame " ∷ []
+
+-- the first breach of a trace
+abbrev pub breach_pieces : Breach → List ℕ → List (List ℕ)
+breach_pieces (breaches.Order line) task = codes "trace " ∷ decimal line ∷ codes ": time out of order\n" ∷ []
+breach_pieces (breaches.Unknown line) task = codes "trace " ∷ decimal line ∷ codes ": unknown task\n" ∷ []
+breach_pieces (breaches.Entry line) task = codes "trace " ∷ decimal line ∷ codes ": wrong entry\n" ∷ []
+breach_pieces (breaches.Early line) task = codes "trace " ∷ decimal line ∷ codes ": early\n" ∷ []
+breach_pieces (breaches.Overdue line) task = codes "trace " ∷ decimal line ∷ codes ": overdue\n" ∷ []
+breach_pieces (breaches.Missing number in_frame what) task =
+    missing_pieces what ++ decimal in_frame ∷ codes " of task " ∷ task ∷ codes "\n" ∷ []
+
+-- the first faulty line of links
+abbrev pub link_pieces : LinkFail → List (List ℕ)
+link_pieces (links.BadLine line) = codes "links " ∷ decimal line ∷ codes ": bad line\n" ∷ []
+link_pieces (links.NoOutput line) = codes "links " ∷ decimal line ∷ codes ": no output\n" ∷ []
+link_pieces (links.NoInput line) = codes "links " ∷ decimal line ∷ codes ": no input\n" ∷ []
+link_pieces (links.InputTwice line) = codes "links " ∷ decimal line ∷ codes ": input twice\n" ∷ []
+link_pieces (links.InLoop line) = codes "links " ∷ decimal line ∷ codes ": receive in a loop\n" ∷ []
+link_pieces links.NoMemory = codes "no memory\n" ∷ []
+
 -- a point of a plan, by its word and its number
 abbrev pub point_word : PointName → List ℕ
 point_word frame = codes "frame"
@@ -147,3 +185,6 @@ fault_pieces words (statuses.Target fail) task = target_pieces fail
 fault_pieces words (statuses.Image fail) task = image_pieces fail
 fault_pieces words (statuses.Flaw flaw) task = flaw_pieces flaw
 fault_pieces words (statuses.Script fail) task = script_pieces fail
+fault_pieces words (statuses.Breach breach) task = breach_pieces breach task
+fault_pieces words (statuses.Trace fail) task = trace_pieces fail
+fault_pieces words (statuses.Link fail) task = link_pieces fail

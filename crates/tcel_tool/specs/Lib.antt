@@ -15,10 +15,14 @@ pub mod FewestText
 pub mod FormatCommand
 pub mod FormedSet
 pub mod Headline
+pub mod JudgeCommand
+pub mod JudgeExamples
 pub mod SetChoice
 pub mod SetForms
 pub mod TargetText
 pub mod Lines
+pub mod LinkedCommand
+pub mod LinkedRuns
 pub mod MadeText
 pub mod MakeCommand
 pub mod MeanCommand
@@ -40,3 +44,4 @@ pub mod Test
 pub mod TimelineCommand
 pub mod TrialCommand
 pub mod WrittenImages
+pub mod JudgedRuns

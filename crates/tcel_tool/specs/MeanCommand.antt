@@ -25,7 +25,7 @@ slots = File ∷ File ∷ Number ∷ []
 
 abbrev pub stages : List Stage
 stages =
-    bound MeanFrames 3 10000 ∷ load 1 program_limit ∷ test tests.program ∷ test tests.faultless ∷ load 2 script_limit ∷ test tests.inputs ∷ []
+    bound MeanFrames 3 10000 ∷ load 1 program_limit ∷ test tests.program ∷ test tests.faultless ∷ load 2 script_limit ∷ test (tests.inputs 2) ∷ []
 
 -- ---- the script
 

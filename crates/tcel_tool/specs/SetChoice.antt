@@ -9,6 +9,7 @@ use Rattle.tcel_driver.specs.Choice.{IsChosen}
 use Rattle.tcel_driver.specs.Refusals.{Refuses}
 use Rattle.tcel_driver.specs.declared.refused.Refused.{Refused}
 use Rattle.tcel_driver.specs.declared.refused.Refused.TheVariants as causes
+use Rattle.tcel_judge.specs.declared.verdict.Breach.TheVariants as breaches
 use Rattle.tcel_num.specs.Plan.{Plan}
 use Rattle.tcel_target.specs.Costs.{CostsInRange, unit_costs}
 use Rattle.tcel_target.specs.declared.costs.Costs.{Costs}
@@ -98,6 +99,7 @@ told_task (statuses.Late late) = Some late.task
 told_task (statuses.Limit (limits.Cells task words)) = Some task
 told_task (statuses.Limit (limits.Cycles task cycles)) = Some task
 told_task (statuses.Limit (limits.Hyper task)) = Some task
+told_task (statuses.Breach (breaches.Missing task frame what)) = Some task
 told_task _ = None
 
 -- the name of the task of this number in a set

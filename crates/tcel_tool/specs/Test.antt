@@ -1,4 +1,5 @@
 -- The tests of what commands read. Commands.antt says what passes each, and what it refuses.
+use Rattle.std.specs.Prelude.{ℕ}
 
 pub data Test : Type 0 where
   target : Test
@@ -8,6 +9,10 @@ pub data Test : Type 0 where
   script : Test
   program : Test
   faultless : Test
-  inputs : Test
+  -- the script of this word, for the inputs of the program
+  inputs : (word : ℕ) → Test
+  links : Test
   few : Test
   forms : Test
+  trace : Test
+  verdict : Test

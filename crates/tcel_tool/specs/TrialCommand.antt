@@ -24,7 +24,7 @@ slots = Number ∷ Positive ∷ Number ∷ []
 abbrev pub stages : List Stage
 stages =
     bound MadeTasks 2 made_tasks ∷ bound Ticks 3 most_ticks ∷ make program 1 ∷ test tests.program ∷ test tests.faultless ∷ test tests.unit_choice
-    ∷ make script 2 ∷ test tests.inputs ∷ []
+    ∷ make script 2 ∷ test (tests.inputs 2) ∷ []
 
 -- one piece, the summary of the run of the choice's image on the script
 pub record IsText (call : Call) (pieces : List (List ℕ)) : Type 0 where

@@ -16,9 +16,11 @@ pub enum Command {
     Mean,
     Analyse,
     Timeline,
+    Linked,
     Fewest,
     Make,
     Trial,
+    Judge,
 }
 
 /// What a word behind a command's name is: the name of a file, or 1 to 18 decimal digits.
@@ -30,7 +32,7 @@ pub enum Slot {
     Positive,
 }
 
-const COMMANDS: [Command; 10] = [
+const COMMANDS: [Command; 12] = [
     Command::Compile,
     Command::Run,
     Command::Format,
@@ -38,9 +40,11 @@ const COMMANDS: [Command; 10] = [
     Command::Mean,
     Command::Analyse,
     Command::Timeline,
+    Command::Linked,
     Command::Fewest,
     Command::Make,
     Command::Trial,
+    Command::Judge,
 ];
 
 const MOST_DIGITS: usize = 18;
@@ -57,9 +61,11 @@ impl Command {
             Command::Mean => "mean",
             Command::Analyse => "analyse",
             Command::Timeline => "timeline",
+            Command::Linked => "linked",
             Command::Fewest => "fewest",
             Command::Make => "make",
             Command::Trial => "trial",
+            Command::Judge => "judge",
         }
     }
 
@@ -71,9 +77,11 @@ impl Command {
             Command::Run | Command::Mean | Command::Timeline => {
                 &[Slot::File, Slot::File, Slot::Number]
             }
+            Command::Linked => &[Slot::File, Slot::File, Slot::File, Slot::File, Slot::Number],
             Command::Format | Command::Check => &[Slot::File],
             Command::Make => &[Slot::Number, Slot::Positive],
             Command::Trial => &[Slot::Number, Slot::Positive, Slot::Number],
+            Command::Judge => &[Slot::File, Slot::File, Slot::File, Slot::File, Slot::Number],
         }
     }
 }

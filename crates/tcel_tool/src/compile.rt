@@ -2,6 +2,7 @@ ghost use Rattle.std.specs.Prelude.{◌≡◌, ◌⊎◌, IfOk, IsTrue, map, str
 ghost use Rattle.tcel_tool.specs.Answer.{Does, status_of, writes};
 ghost use Rattle.tcel_tool.specs.Chosen.{plain_choice};
 ghost use Rattle.tcel_tool.specs.CompileCommand.{image_bytes};
+ghost use Rattle.tcel_tool.specs.Headline.{image_for};
 ghost use Rattle.tcel_tool.specs.SetChoice.{IsBest};
 
 use crate::choice::{ChosenSet, choose_for};
@@ -12,6 +13,7 @@ use tcel_gen::generate;
 use tcel_image::encode;
 use tcel_io::{Shelf, Sink};
 use tcel_num::{Name, NoMemory};
+use tcel_verify::Ready;
 
 /// Writes the image of the program of word 1 for the target of word 2. Where the status of a refusal tells a task, `task` becomes its name.
 pub(crate) fn compile<H: Shelf, K: Sink>(
@@ -36,12 +38,20 @@ pub(crate) fn image_bytes(alloc: Global, chosen: &ChosenSet) -> Result<Vec<u8>, 
     requires { IsBest (plain_choice chosen.now) }
     ensures { IfOk result (λ bytes. bytes.items ≡ image_bytes (plain_choice chosen.now)) }
 {
-    let ready = generate(
+    let ready = image_of(alloc, chosen)?;
+    encode(alloc, ready.image())
+}
+
+/// The image of a choice.
+pub(crate) fn image_of(alloc: Global, chosen: &ChosenSet) -> Result<Ready, NoMemory>
+    requires { IsBest (plain_choice chosen.now) }
+    ensures { IfOk result (λ ready. ready ≡ image_for (plain_choice chosen.now)) }
+{
+    generate(
         alloc,
         &chosen.set,
         chosen.choice.parts.as_slice(),
         chosen.choice.sliced,
         &chosen.costs,
-    )?;
-    encode(alloc, ready.image())
+    )
 }

@@ -7,7 +7,7 @@ ghost use Rattle.tcel_tool.specs.Answer.{IsDecided};
 ghost use Rattle.tcel_tool.specs.Report.{is_sliced};
 ghost use Rattle.tcel_tool.specs.ReportExamples.{last_sliced, plan_text, wanted_text};
 ghost use Rattle.tcel_tool.specs.CommandExamples.{analyse_line, check_line, compile_line, fewest_line, format_line, late_point, long_hyper};
-ghost use Rattle.tcel_tool.specs.CommandExamples.{make_line, many_cells, many_tasks, mean_line, nothing_told, too_many_made, trial_line};
+ghost use Rattle.tcel_tool.specs.CommandExamples.{again, linked_line, make_line, many_cells, many_tasks, mean_line, nothing_told, too_many_made, trial_line};
 ghost use Rattle.tcel_tool.specs.CommandExamples.{run_line, same_priority, seventeen, sixteen, timeline_line, too_deep, too_many, too_many_frames, unexpected};
 ghost use Rattle.tcel_tool.specs.MeanExamples.{alarm_pieces, alarm_text, both_pieces, both_text};
 ghost use Rattle.tcel_tool.specs.SummaryExamples.{nothing_text, nothing_wanted, shown_text, shown_wanted};
@@ -18,7 +18,9 @@ ghost use Rattle.tcel_tool.specs.SpanExamples.{preempted, preempted_lines, preem
 ghost use Rattle.tcel_tool.specs.Spans.{AreLines, AreSpans};
 ghost use Rattle.tcel_tool.specs.FewestCommand.{IsMany};
 ghost use Rattle.tcel_tool.specs.FewestExamples.{full_text, full_wanted, lower_text, lower_wanted, none_text, none_wanted, thirteen, twelve};
-ghost use Rattle.tcel_tool.specs.declared.command.Command.TheVariants.{Analyse, Check, Compile, Fewest, Format, Make, Mean, Run, Timeline, Trial};
+ghost use Rattle.tcel_tool.specs.JudgeExamples.{bad_line, judge_line, missing_end, missing_event, overdue_line};
+ghost use Rattle.tcel_tool.specs.declared.command.Command.TheVariants.{Judge};
+ghost use Rattle.tcel_tool.specs.declared.command.Command.TheVariants.{Analyse, Check, Compile, Fewest, Format, Linked, Make, Mean, Run, Timeline, Trial};
 ghost use Rattle.tcel_tool.specs.declared.spans.Span.{Span};
 ghost use Rattle.tcel_tool.specs.declared.status.Status.{Status};
 
@@ -31,6 +33,7 @@ pub fn command_examples()
     ensures mean { HasForm Mean (mean_line (codes "2")) }
     ensures analyse { HasForm Analyse analyse_line }
     ensures timeline { HasForm Timeline (timeline_line (codes "6")) }
+    ensures linked { HasForm Linked (linked_line (codes "40")) }
     ensures fewest { HasForm Fewest fewest_line }
     ensures make { HasForm Make (make_line (codes "016")) }
     ensures no_tasks { HaveNoForm (make_line (codes "00")) }
@@ -47,8 +50,10 @@ pub fn command_examples()
     ensures no_words { HaveNoForm [] }
     ensures most_ticks { IsDecided Run nothing_told (run_line (codes "10000000")) too_many → ⊥ }
     ensures too_many_ticks { IsDecided Run nothing_told (run_line (codes "10000001")) too_many }
+    ensures too_far { IsDecided Linked nothing_told (linked_line (codes "10000001")) too_many }
     ensures too_long { IsDecided Timeline nothing_told (timeline_line (codes "10000001")) too_many }
     ensures line { concat (fault_pieces format_line unexpected []) ≡ codes "program 1:38: unexpected token\n" }
+    ensures again { concat (fault_pieces (linked_line (codes "40")) again []) ≡ codes "links 2: input twice\n" }
     ensures deep { concat (fault_pieces format_line too_deep []) ≡ codes "limit: operators above 64 at 12:304\n" }
     ensures fault { concat (fault_pieces check_line same_priority []) ≡ codes "program 2:17: same priority\n" }
     ensures late { concat (fault_pieces compile_line late_point (codes "lo")) ≡ codes "rejected: late task lo frame 1 point within 3 response 70 bound 69\n" }
@@ -114,6 +119,17 @@ pub fn fewest_examples()
     ensures twelve { IsMany twelve thirteen → ⊥ }
     ensures one_more { IsMany (counter ∷ twelve) thirteen }
     ensures line { concat (fault_pieces fewest_line thirteen []) ≡ codes "limit: fewest tasks 13 above 12\n" }
+{}
+
+/// Words of `judge`, and the lines of breaches and of a faulty trace (docs/commands.md).
+pub fn judge_examples()
+    ensures form { HasForm Judge (judge_line (codes "10")) }
+    ensures few_words { HaveNoForm (codes "judge" ∷ codes "a" ∷ codes "b" ∷ codes "c" ∷ codes "10" ∷ []) }
+    ensures too_long { IsDecided Judge nothing_told (judge_line (codes "10000001")) too_many }
+    ensures line { concat (fault_pieces (judge_line (codes "10")) overdue_line []) ≡ codes "trace 1: overdue\n" }
+    ensures event { concat (fault_pieces (judge_line (codes "10")) missing_event (codes "t")) ≡ codes "trace: missing event 2 of frame 3 of task t\n" }
+    ensures end { concat (fault_pieces (judge_line (codes "10")) missing_end (codes "t")) ≡ codes "trace: missing end of frame 0 of task t\n" }
+    ensures bad { concat (fault_pieces (judge_line (codes "10")) bad_line []) ≡ codes "trace 1: bad line\n" }
 {}
 
 /// What `trial` writes of a run's entries, and of none (docs/formats.md).

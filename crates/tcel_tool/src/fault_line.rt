@@ -2,8 +2,10 @@ ghost use Rattle.std.specs.Prelude.{◌≡◌, [], ◌∷◌, codes, map, string
 ghost use Rattle.std.specs.Fmt.{decimal};
 ghost use Rattle.tcel_io.specs.InTurn.{ArePut};
 ghost use Rattle.tcel_tool.specs.FaultLine.{check_text, count_pieces, fault_pieces, flaw_pieces, flaw_text, image_pieces};
-ghost use Rattle.tcel_tool.specs.FaultLine.{late_pieces, limit_pieces, limit_text, point_number, point_word};
+ghost use Rattle.tcel_tool.specs.FaultLine.{late_pieces, limit_pieces, limit_text, link_pieces, point_number, point_word};
 ghost use Rattle.tcel_tool.specs.FaultLine.{program_pieces, program_text, script_pieces, target_pieces};
+ghost use Rattle.tcel_tool.specs.FaultLine.{breach_pieces, trace_pieces};
+ghost use Rattle.tcel_judge.specs.declared.verdict.Breach.TheVariants.{Missing};
 
 use crate::stages::word_at;
 use crate::status::{CountKind, LimitFault, ProgramKind, Status};
@@ -12,9 +14,12 @@ use tcel_check::{CheckKind, LimitKind};
 use tcel_demand::{Late, PointName};
 use tcel_image::{Flaw, FlawKind, ImageFail};
 use tcel_io::Sink;
+use tcel_judge::{Breach, Due};
+use tcel_link::LinkFail;
 use tcel_num::At;
 use tcel_script::ScriptFail;
 use tcel_target::TargetFail;
+use tcel_trace::TraceFail;
 
 /// Puts the fault line of the status (docs/commands.md), in pieces: the texts between words, names and numbers, and these. `task` is the name of the
 /// task that the status tells, where it tells one. After a fault nothing more is put.
@@ -47,6 +52,9 @@ pub(crate) fn put_fault_line<K: Sink>(words: &[String], status: &Status, task: &
         Status::Image(fail) => put_image_fail(*fail, err),
         Status::Flaw(flaw) => put_flaw(*flaw, err),
         Status::Script(fail) => put_script_fail(*fail, err),
+        Status::Breach(breach) => put_breach(*breach, task, err),
+        Status::Trace(fail) => put_trace_fail(*fail, err),
+        Status::Link(fail) => put_link_fail(*fail, err),
     }
 }
 
@@ -345,6 +353,99 @@ fn put_script_fail<K: Sink>(fail: ScriptFail, err: &mut K)
         ),
         ScriptFail::Number { line } => put_number(b"script ", u64::from(line), b": number\n", err),
         ScriptFail::NoMemory => put_all(&[b"no memory\n"], err),
+    }
+}
+
+fn put_breach<K: Sink>(breach: Breach, task: &[u8], err: &mut K)
+    ensures { ArePut (breach_pieces breach task.now) (K.seen err.old) (K.seen err.new) }
+{
+    match breach {
+        Breach::Order { line } => put_number(b"trace ", line, b": time out of order\n", err),
+        Breach::Unknown { line } => put_number(b"trace ", line, b": unknown task\n", err),
+        Breach::Entry { line } => put_number(b"trace ", line, b": wrong entry\n", err),
+        Breach::Early { line } => put_number(b"trace ", line, b": early\n", err),
+        Breach::Overdue { line } => put_number(b"trace ", line, b": overdue\n", err),
+        Breach::Missing {
+            task: number,
+            frame,
+            what,
+        } => put_missing(number, frame, what, task, err),
+    }
+}
+
+/// Puts an entry that is missing of a frame of the task with this number and this name.
+fn put_missing<K: Sink>(number: u32, frame: u64, what: Due, task: &[u8], err: &mut K)
+    ensures { ArePut (breach_pieces (Missing number frame what) task.now) (K.seen err.old) (K.seen err.new) }
+{
+    match what {
+        Due::Event { number: event } => put_all(
+            &[
+                b"trace: missing event ",
+                Buffer::new().format(event).as_bytes(),
+                b" of frame ",
+                Buffer::new().format(frame).as_bytes(),
+                b" of task ",
+                task,
+                b"\n",
+            ],
+            err,
+        ),
+        Due::First => put_task(
+            b"trace: missing first of frame ",
+            frame,
+            b" of task ",
+            task,
+            err,
+        ),
+        Due::End => put_task(
+            b"trace: missing end of frame ",
+            frame,
+            b" of task ",
+            task,
+            err,
+        ),
+    }
+}
+
+fn put_trace_fail<K: Sink>(fail: TraceFail, err: &mut K)
+    ensures { ArePut (trace_pieces fail) (K.seen err.old) (K.seen err.new) }
+{
+    match fail {
+        TraceFail::BadTrace { line } => put_number(
+            b"trace ",
+            u64::from(line),
+            b": bad line\n",
+            err,
+        ),
+        TraceFail::NoMemory => put_all(&[b"no memory\n"], err),
+    }
+}
+
+fn put_link_fail<K: Sink>(fail: LinkFail, err: &mut K)
+    ensures { ArePut (link_pieces fail) (K.seen err.old) (K.seen err.new) }
+{
+    match fail {
+        LinkFail::BadLine { line } => put_number(b"links ", u64::from(line), b": bad line\n", err),
+        LinkFail::NoOutput { line } => put_number(
+            b"links ",
+            u64::from(line),
+            b": no output\n",
+            err,
+        ),
+        LinkFail::NoInput { line } => put_number(b"links ", u64::from(line), b": no input\n", err),
+        LinkFail::InputTwice { line } => put_number(
+            b"links ",
+            u64::from(line),
+            b": input twice\n",
+            err,
+        ),
+        LinkFail::InLoop { line } => put_number(
+            b"links ",
+            u64::from(line),
+            b": receive in a loop\n",
+            err,
+        ),
+        LinkFail::NoMemory => put_all(&[b"no memory\n"], err),
     }
 }
 

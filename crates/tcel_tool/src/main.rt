@@ -36,6 +36,10 @@ mod format;
 mod format_tests;
 mod formed;
 mod headline;
+mod judge;
+mod linked;
+#[cfg(test)]
+mod linked_tests;
 mod make;
 #[cfg(test)]
 mod make_tests;

@@ -78,7 +78,7 @@ fn script_of(alloc: Global, bytes: &[u8], ready: &Ready) -> Result<Script, Statu
 }
 
 /// Puts the lines of the next so many ticks, up to the first fault.
-fn put_lines<K: Sink>(
+pub(crate) fn put_lines<K: Sink>(
     machine: &mut Machine,
     buffer: &mut Buffer,
     ticks: u64,

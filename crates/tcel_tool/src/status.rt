@@ -6,9 +6,12 @@ use tcel_check::{CheckKind, LimitKind};
 use tcel_demand::Late;
 use tcel_image::{Flaw, ImageFail};
 use tcel_io::SinkFault;
+use tcel_judge::Breach;
+use tcel_link::LinkFail;
 use tcel_num::{At, NoMemory};
 use tcel_script::ScriptFail;
 use tcel_target::TargetFail;
+use tcel_trace::TraceFail;
 
 /// How a call of `tcel` ended (docs/commands.md). `word` is the number of a word of the command line, where the command itself is 0.
 #[derive(Debug, Drop, PartialEq, Eq)]
@@ -36,6 +39,12 @@ pub enum Status {
     Flaw(Flaw),
     /// The script has a faulty line. Want of memory is `NoMemory`.
     Script(ScriptFail),
+    /// The trace doesn't meet the program; this is the first thing that is wrong with it.
+    Breach(Breach),
+    /// The bytes of the trace have a line without the form of one. Want of memory is `NoMemory`.
+    Trace(TraceFail),
+    /// The links have a faulty line. Want of memory is `NoMemory`.
+    Link(LinkFail),
 }
 
 /// How a program's text goes wrong (docs/language.md).
@@ -104,6 +113,9 @@ impl Status {
             Status::Target(_) => 8,
             Status::Image(_) | Status::Flaw(_) => 9,
             Status::Script(_) => 10,
+            Status::Breach(_) => 12,
+            Status::Trace(_) => 13,
+            Status::Link(_) => 11,
         }
     }
 }

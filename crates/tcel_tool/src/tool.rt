@@ -15,6 +15,8 @@ use crate::compile::compile;
 use crate::fault_line::put_fault_line;
 use crate::fewest::fewest;
 use crate::format::format;
+use crate::judge::judge;
+use crate::linked::linked;
 use crate::make::make;
 use crate::mean::mean;
 use crate::run::run;
@@ -116,8 +118,10 @@ fn body<H: Shelf, K: Sink>(
         Command::Mean => mean(alloc, words, shelf, out),
         Command::Analyse => analyse(alloc, words, shelf, out, task),
         Command::Timeline => timeline(alloc, words, shelf, out, task),
+        Command::Linked => linked(alloc, words, shelf, out, task),
         Command::Fewest => fewest(alloc, words, shelf, out, task),
         Command::Make => make(alloc, words, out),
         Command::Trial => trial(alloc, words, out, task),
+        Command::Judge => judge(alloc, words, shelf, out, task),
     }
 }

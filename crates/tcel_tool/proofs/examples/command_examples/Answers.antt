@@ -1,8 +1,11 @@
-use Rattle.tcel_tool.proofs.CommandExamples.{cells_line, deep_line, fault_line, frames_line, late_line, limit_line, long_line, made_line, unexpected_line}
+use Rattle.tcel_tool.proofs.CommandExamples.{again_line, cells_line, deep_line, fault_line, frames_line, late_line, limit_line, long_line, made_line, unexpected_line}
 use Rattle.tcel_tool.proofs.examples.command_examples.Goals as goal
 
 pub returns-clause-line : goal.returns-clause-line
 returns-clause-line c = unexpected_line
+
+pub returns-clause-again : goal.returns-clause-again
+returns-clause-again c = again_line
 
 pub returns-clause-deep : goal.returns-clause-deep
 returns-clause-deep c = deep_line

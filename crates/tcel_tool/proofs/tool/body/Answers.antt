@@ -21,8 +21,14 @@ returns-in-Analyse-clause-goes g c = rw c.in-Analyse.is c.analyse.ensures.goes
 pub returns-in-Timeline-clause-goes : goal.returns-in-Timeline-clause-goes
 returns-in-Timeline-clause-goes g c = rw c.in-Timeline.is c.timeline.ensures.goes
 
+pub returns-in-Linked-clause-goes : goal.returns-in-Linked-clause-goes
+returns-in-Linked-clause-goes g c = rw c.in-Linked.is c.linked.ensures.goes
+
 pub returns-in-Fewest-clause-goes : goal.returns-in-Fewest-clause-goes
 returns-in-Fewest-clause-goes g c = rw c.in-Fewest.is c.fewest.ensures.goes
+
+pub returns-in-Judge-clause-goes : goal.returns-in-Judge-clause-goes
+returns-in-Judge-clause-goes g c = rw c.in-Judge.is c.judge.ensures.goes
 
 pub returns-in-Trial-clause-goes : goal.returns-in-Trial-clause-goes
 returns-in-Trial-clause-goes g c = rw c.in-Trial.is (c.trial.ensures.goes (g.H.Shelf.seen c.args.shelf.now))
