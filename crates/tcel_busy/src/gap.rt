@@ -1,4 +1,4 @@
-ghost use Rattle.std.specs.Prelude.{◌≡◌, suc, ◌+◌, ◌^◌, ◌<◌, ◌≤◌, All, length};
+ghost use Rattle.std.specs.Prelude.{suc, ◌+◌, ◌^◌, ◌<◌, ◌≤◌, All, length};
 ghost use Rattle.tcel_busy.specs.Releases.{AreNext, IsGap};
 ghost use Rattle.tcel_demand.specs.Sound.{IsSoundPlan};
 ghost use Rattle.tcel_demand.specs.Workload.{asked};

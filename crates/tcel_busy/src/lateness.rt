@@ -1,4 +1,4 @@
-ghost use Rattle.std.specs.Prelude.{◌≡◌, ◌-◌, ◌*◌, ◌^◌, ◌<◌, ◌≤◌, ◌&&◌, ℕ, length, nat_le, nat_lt, position, IfSome, IfNone, MatchOption};
+ghost use Rattle.std.specs.Prelude.{◌≡◌, ◌-◌, ◌^◌, ◌<◌, ◌≤◌, ◌&&◌, ℕ, length, nat_le, nat_lt, position, IfSome, IfNone, MatchOption};
 ghost use Rattle.tcel_num.specs.Lateness.{IsFirstLate, IsNeverLate};
 ghost use Rattle.tcel_demand.specs.Sound.{Fit, IsSoundPlan};
 ghost use Rattle.tcel_busy.specs.LateStretches.{IsLateIn, IsLateStretch, IsRoom, IsFirstOfTask, IsNeverLateTask};

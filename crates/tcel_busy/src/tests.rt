@@ -1,6 +1,6 @@
-ghost use Rattle.std.specs.Prelude.{◌≡◌, [], ◌∷◌, ◌*◌, ◌^◌, ◌<◌, ◌≤◌, ℕ, Some, IfOk, length, slice_get};
+ghost use Rattle.std.specs.Prelude.{◌≡◌, ◌^◌, ◌<◌, ◌≤◌, ℕ, Some, IfOk, length, slice_get};
 ghost use Rattle.tcel_num.specs.Plan.{Plan, frame};
-ghost use Rattle.tcel_demand.specs.Sound.{Fit, HasPoint, IsSoundPlan};
+ghost use Rattle.tcel_demand.specs.Sound.{Fit, HasPoint};
 
 use crate::{late, worst, worst_of_task};
 use sqlite_items::Items;

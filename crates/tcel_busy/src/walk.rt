@@ -1,4 +1,4 @@
-ghost use Rattle.std.specs.Prelude.{◌≡◌, ◌*◌, ◌<◌, ℕ, length, IfSome, IfNone};
+ghost use Rattle.std.specs.Prelude.{◌≡◌, ◌<◌, ℕ, length, IfSome, IfNone};
 ghost use Rattle.tcel_demand.specs.Sound.{Fit};
 ghost use Rattle.tcel_busy.specs.Stretches.{IsNextStretch, IsOver};
 

@@ -7,7 +7,7 @@ use Rattle.std.proofs.lemmas.Grind.{flat_map-append}
 use Rattle.tcel_num.specs.declared.at.At.{At}
 use Rattle.tcel_num.specs.Arithmetic.{truth as truth_number}
 use Rattle.tcel_core.specs.Typing as core
-use Rattle.tcel_core.specs.Typing.{HasType, IsScalar, IsArray, operand_type, result_type}
+use Rattle.tcel_core.specs.Typing.{HasType, operand_type, result_type}
 use Rattle.tcel_core.specs.Limits as limits
 use Rattle.tcel_tree.specs.declared.task.Decl.{Decl}
 use Rattle.tcel_tree.specs.Language.{Expr, number, truth, variable, element, unary, binary}

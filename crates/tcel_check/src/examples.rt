@@ -1,4 +1,4 @@
-ghost use Rattle.std.specs.Prelude.{◌≡◌, [], ◌∷◌, ◌++◌, None, Some, true, false, codes, pos, replicate};
+ghost use Rattle.std.specs.Prelude.{◌≡◌, [], ◌∷◌, ◌++◌, None, Some, true, false, codes};
 ghost use Rattle.tcel_num.specs.declared.op.Op.{Op};
 ghost use Rattle.tcel_check.specs.declared.fail.CheckKind.TheVariants.{Twice, Unknown, WrongType, NotAPort, WindowInLoop, LoopDepth, SamePriority, BadBound};
 ghost use Rattle.tcel_check.specs.declared.fail.LimitKind.TheVariants.{Tasks, Variables, Words, Nodes, Windows};
@@ -9,7 +9,7 @@ ghost use Rattle.tcel_check.specs.Examples.{loops, same_ports, arrays, blocks, t
 ghost use Rattle.tcel_check.specs.Marks.{fault, limit, precedes};
 ghost use Rattle.tcel_check.specs.Rows.{many_names, many_nodes, marks, task_marks};
 ghost use Rattle.tcel_tree.specs.declared.task.DeclKind.{DeclKind};
-ghost use Rattle.tcel_tree.specs.Language.{truth, element, unary, binary, next, done};
+ghost use Rattle.tcel_tree.specs.Language.{truth, element, unary, binary, done};
 
 /// What the table of faults says of names and types (docs/language.md).
 pub fn name_examples()

@@ -2,8 +2,7 @@ ghost use Rattle.std.specs.Prelude.{◌≡◌, ◌≤◌, ◌<◌, ℕ, List, �
 ghost use Rattle.std.specs.List.{AllByRecursion};
 ghost use Rattle.tcel_check.specs.Known.{kind_in};
 ghost use Rattle.tcel_check.specs.Least.{Adds, AddsWords};
-ghost use Rattle.tcel_check.specs.Rows.{at_decl, many_names, past, passing, repeats, same_decl, twice_mark, word_mark, words_of};
-ghost use Rattle.tcel_check.specs.Marks.{fault, limit};
+ghost use Rattle.tcel_check.specs.Rows.{at_decl, many_names, past, repeats, same_decl, twice_mark, words_of};
 ghost use Rattle.tcel_check.specs.Sights.{head_sights, length_sights};
 ghost use Rattle.tcel_check.specs.Spelled.{IsSpelledDecl};
 ghost use Rattle.tcel_check.specs.Types.{kind_of};

@@ -19,8 +19,6 @@ mod numbers;
 mod purpose;
 mod stmts;
 mod tasks;
-#[cfg(test)]
-mod tests;
 mod value_type;
 mod walk;
 

@@ -1,7 +1,6 @@
-ghost use Rattle.std.specs.Prelude.{◌≡◌, ℕ, List, ◌∷◌, Option, None};
+ghost use Rattle.std.specs.Prelude.{◌≡◌, ℕ, List, Option, None};
 ghost use Rattle.tcel_check.specs.Known.{kind_in};
-ghost use Rattle.tcel_check.specs.Sights as sights;
-ghost use Rattle.tcel_check.specs.Sights.{assigned_sights, block_sights, clause_sights, expr_sights, inside, stmt_sights, window_sights};
+ghost use Rattle.tcel_check.specs.Sights.{assigned_sights, block_sights, clause_sights, inside, stmt_sights, window_sights};
 ghost use Rattle.tcel_check.specs.declared.purpose.Purpose.TheVariants.{Scalar};
 ghost use Rattle.tcel_check.specs.Types.{type_of};
 ghost use Rattle.tcel_check.specs.Walks.{Saw};

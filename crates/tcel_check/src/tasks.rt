@@ -3,9 +3,7 @@ ghost use Rattle.std.specs.List.{AllByRecursion};
 ghost use Rattle.tcel_check.specs.Marks.{IsFirst};
 ghost use Rattle.tcel_check.specs.Least.{Adds};
 ghost use Rattle.tcel_check.specs.Rows.{many_tasks, marks, same_priorities, task_marks, twice_tasks};
-ghost use Rattle.tcel_check.specs.Sights.{head_sights};
 ghost use Rattle.tcel_check.specs.Spelled.{IsSpelledTask};
-ghost use Rattle.tcel_check.specs.Walks.{Saw};
 ghost use Rattle.tcel_tree.specs.Plain.{plain_task};
 
 use crate::fail::{CheckKind, LimitKind};

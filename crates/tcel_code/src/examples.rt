@@ -1,4 +1,4 @@
-ghost use Rattle.std.specs.Prelude.{◌≡◌, ◌≤◌, [], ◌∷◌, map, All};
+ghost use Rattle.std.specs.Prelude.{◌≡◌, ◌≤◌, [], ◌∷◌, All};
 ghost use Rattle.tcel_num.specs.Lateness.{IsNeverLate};
 ghost use Rattle.tcel_num.specs.Schedule.{served_counts};
 ghost use Rattle.tcel_core.specs.Scope.{TaskFits};

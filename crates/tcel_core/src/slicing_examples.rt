@@ -5,8 +5,7 @@ ghost use Rattle.tcel_core.specs.Kept.{by_item, by_test};
 ghost use Rattle.tcel_core.specs.Kinds.{is_fetched, is_kind_1, is_kind_2, is_kind_3};
 ghost use Rattle.tcel_core.specs.Numbering.{numbers_from};
 ghost use Rattle.tcel_core.specs.Parts.{parts_of};
-ghost use Rattle.tcel_core.specs.Sound.{IsSoundTask};
-ghost use Rattle.tcel_core.specs.SlicingExamples.{added_var, branch, branch_body, branch_first, branch_rest, branch_task, branch_users, branch_vars, live, mixed, mixed_first, mixed_rest, mixed_vars, reaching, standing_around, step, step_first, step_rest, step_vars};
+ghost use Rattle.tcel_core.specs.SlicingExamples.{added_var, branch, branch_body, branch_first, branch_rest, branch_users, branch_vars, live, mixed, mixed_first, mixed_rest, mixed_vars, reaching, standing_around, step, step_first, step_rest, step_vars};
 
 /// What reaches what, the kinds of variables and the two parts, worked out on an `if` of which one branch is left for
 /// the rest (docs/slicing.md).

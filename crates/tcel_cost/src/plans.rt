@@ -6,7 +6,7 @@ ghost use Rattle.tcel_core.specs.Sound.{IsSoundTask};
 ghost use Rattle.tcel_demand.specs.Sound.{IsSoundPlan};
 ghost use Rattle.tcel_target.specs.Costs.{CostsInRange};
 ghost use Rattle.tcel_cost.specs.Answers.{IsAbove, Refuses};
-ghost use Rattle.tcel_cost.specs.CostSteps.{block_cost, entered};
+ghost use Rattle.tcel_cost.specs.CostSteps.{entered};
 ghost use Rattle.tcel_cost.specs.Forms.{form_of};
 ghost use Rattle.tcel_cost.specs.Plans.{IsPlan};
 ghost use Rattle.tcel_cost.specs.PointSteps.{plan_by};

@@ -2,7 +2,7 @@ ghost use Rattle.std.specs.Prelude.{◌≡◌, ◌++◌, Some, IfOk, OnOk};
 ghost use Rattle.tcel_core.specs.Plain.{plain_body, plain_stmt};
 ghost use Rattle.tcel_demand.specs.PlanViews.{name_of};
 ghost use Rattle.tcel_cost.specs.CostSteps.{block_cost, stmt_cost, entered};
-ghost use Rattle.tcel_cost.specs.PointSteps.{block_points, own_points, point_at, stmt_points};
+ghost use Rattle.tcel_cost.specs.PointSteps.{block_points, point_at, stmt_points};
 ghost use Rattle.tcel_cost.specs.Rooms.{HasRoom, block_most, stmt_most};
 
 use crate::bodies::{after_body, after_item, jump_cost};

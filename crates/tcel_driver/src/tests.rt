@@ -1,4 +1,4 @@
-ghost use Rattle.std.specs.Prelude.{◌≡◌, ◌+◌, ◌<◌, [], ◌∷◌, ◌++◌, IfOk, OnOk, codes};
+ghost use Rattle.std.specs.Prelude.{◌≡◌, ◌+◌, ◌<◌, [], ◌∷◌, ◌++◌, IfOk, OnOk};
 ghost use Rattle.tcel_core.specs.Examples.{counter_body, counter_vars, int_var, one, plus};
 ghost use Rattle.tcel_core.specs.Language.{assign, done, for_loop, item, next, send};
 ghost use Rattle.tcel_core.specs.Plain.{plain_body, plain_expr, plain_set, plain_task};

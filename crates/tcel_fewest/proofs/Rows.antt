@@ -2,7 +2,7 @@
 use Rattle.std.proofs.Common.{◌≡◌, ℕ, ◌^◌, ◌<◌, ◌≤◌, List, [], ◌∷◌, length, refl, sym, ◌∙◌, subst, arith, lit<, lit≤}
 use Rattle.std.proofs.lemmas.List.Elements.{All-nil, All-cons}
 use Rattle.std.proofs.lemmas.Nat.Gcd.{IsGcd-from_zero, IsGcd-from_mod}
-use Rattle.tcel_num.specs.Plan.{Plan, Point, frame, within}
+use Rattle.tcel_num.specs.Plan.{Plan, frame, within}
 use Rattle.tcel_num.proofs.CommonMultiples.{two}
 use Rattle.tcel_demand.specs.Sound.{AreWithin, IsSoundPlan, IsSoundPoint}
 use Rattle.tcel_demand.proofs.Fits.{one_point, two_sound}

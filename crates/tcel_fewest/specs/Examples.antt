@@ -1,5 +1,5 @@
 -- A plan in which numbers are told apart, on which the definitions are tried.
-use Rattle.std.specs.Prelude.{ℕ, [], ◌∷◌}
+use Rattle.std.specs.Prelude.{ℕ, []}
 use Rattle.tcel_num.specs.Plan.{Plan}
 
 -- a plan without points

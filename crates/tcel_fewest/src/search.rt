@@ -1,4 +1,4 @@
-ghost use Rattle.std.specs.Prelude.{◌≡◌, ◌+◌, ◌≤◌, ◌∷◌, ◌++◌, [], IfOk, MatchOption, OnOk, length};
+ghost use Rattle.std.specs.Prelude.{◌+◌, ◌≤◌, IfOk, MatchOption, length};
 ghost use Rattle.tcel_driver.specs.Steps.{ArePaired};
 ghost use Rattle.tcel_fewest.specs.Faults.{AreFaults, IsAsked, IsFewest, IsReached, NoneFits};
 

@@ -6,8 +6,6 @@ mod examples;
 mod reaching;
 mod shape;
 mod step;
-#[cfg(test)]
-mod tests;
 
 pub use around::stands_around;
 pub use examples::{shape_example, worked_task};

@@ -1,4 +1,4 @@
-ghost use Rattle.std.specs.Prelude.{◌≡◌, ◌++◌, ◌≤◌, ◌+◌, IfOk, OnOk, length, true};
+ghost use Rattle.std.specs.Prelude.{◌≡◌, ◌++◌, ◌+◌, IfOk, OnOk, length, true};
 ghost use Rattle.tcel_core.specs.Contents.{act_loops, loops, stmt_loops};
 ghost use Rattle.tcel_core.specs.Plain.{plain_body, plain_item, plain_stmt};
 ghost use Rattle.tcel_code.specs.Code.{act_code, block_code, stmt_code};

@@ -12,8 +12,6 @@ mod pieces;
 mod places;
 mod sizes;
 mod task;
-#[cfg(test)]
-mod tests;
 
 pub use image::generate;
 pub use laws::{forms_are_ready, images_are_ready, images_are_small, runs_meet_their_source};

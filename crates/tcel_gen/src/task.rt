@@ -2,7 +2,6 @@ ghost use Rattle.std.specs.Prelude.{◌≡◌, ◌≤◌, ◌+◌, ◌++◌, [],
 ghost use Rattle.tcel_core.specs.Cells.{all_words, words_of};
 ghost use Rattle.tcel_core.specs.Contents.{loops};
 ghost use Rattle.tcel_core.specs.Frames.{first_words, is_state};
-ghost use Rattle.tcel_core.specs.Numbering.{IsNumbered};
 ghost use Rattle.tcel_core.specs.Parts.{AreOwnParts, plain_parts};
 ghost use Rattle.tcel_core.specs.Plain.{plain_body, plain_task};
 ghost use Rattle.tcel_core.specs.Sound.{IsDeclared, IsSoundTask};

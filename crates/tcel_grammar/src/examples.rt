@@ -1,6 +1,5 @@
-ghost use Rattle.std.specs.Prelude.{[], codes};
+ghost use Rattle.std.specs.Prelude.{[]};
 ghost use Rattle.tcel_grammar.specs.declared.deep.Deep.{Deep};
-ghost use Rattle.tcel_grammar.specs.Programs.{IsProgram};
 ghost use Rattle.tcel_grammar.specs.Faults.{IsAccepted, IsSyntaxFault, IsDepthFault};
 ghost use Rattle.tcel_grammar.specs.Examples.{around, chain, chain_tree, column, doubled, end_of, nested, summed, task_around, tokens_of};
 ghost use Rattle.tcel_tree.specs.Language.{Task};

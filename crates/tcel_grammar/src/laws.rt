@@ -4,7 +4,7 @@ ghost use Rattle.tcel_token.specs.Terminal.{Terminal};
 ghost use Rattle.tcel_tree.specs.Language.{Task};
 ghost use Rattle.tcel_grammar.specs.declared.deep.Deep.{Deep};
 ghost use Rattle.tcel_grammar.specs.Programs.{IsProgram};
-ghost use Rattle.tcel_grammar.specs.Faults.{IsAccepted, IsSyntaxFault, IsDepthFault, IsShallow, place_of};
+ghost use Rattle.tcel_grammar.specs.Faults.{IsAccepted, IsSyntaxFault, IsDepthFault, place_of};
 ghost use Rattle.tcel_grammar.specs.Machine.{program, run, zero_counts, accepted, stopped, deep};
 
 /// Tokens are those of one program at most.

@@ -19,6 +19,3 @@ pub use laws::{spelling_example, spelling_laws};
 pub use range::in_range;
 pub use reading::decode;
 pub use writing::encode;
-
-#[cfg(test)]
-mod tests;

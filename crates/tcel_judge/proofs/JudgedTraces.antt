@@ -8,7 +8,7 @@ use Rattle.std.proofs.lemmas.Bool.{eq-eqb, false_from_ne_true, leb-true, or_case
 use Rattle.std.proofs.lemmas.Option.{same_Some, slice_get_within, slice_get-map, get_or_from_slice_get, slice_get-get_or}
 use Rattle.std.proofs.lemmas.List.{map-append}
 use Rattle.std.proofs.lemmas.List.Elements.{filter-append}
-use Rattle.tcel_num.specs.Entry.{Entry, What}
+use Rattle.tcel_num.specs.Entry.{Entry}
 use Rattle.tcel_num.specs.Plan.{Plan}
 use Rattle.tcel_num.specs.Schedule.{served}
 use Rattle.tcel_core.specs.Language.{Task}
@@ -17,7 +17,6 @@ use Rattle.tcel_core.specs.Promises.{Behavior, Promise, frame_promises, promises
 use Rattle.tcel_core.proofs.PromiseLaws.{promises-add}
 use Rattle.tcel_trace.specs.declared.trace_line.TraceLine.{TraceLine}
 use Rattle.tcel_script.specs.Script.{same}
-use Rattle.tcel_judge.specs.declared.verdict.Breach.TheVariants as breaches
 use Rattle.tcel_judge.specs.declared.verdict.Verdict.TheVariants.{Yes}
 use Rattle.tcel_judge.specs.FirstBreach.{Judged, promise_at, own_lines, is_due, is_end, task_breach, entry_breach, breach_behind, total_at, AreRight, IsWhole, Says, accepted}
 use Rattle.tcel_judge.specs.JudgedTraces.{IsLineOf}

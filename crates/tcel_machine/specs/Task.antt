@@ -1,10 +1,10 @@
 -- A task of the machine as the definition's running task, and what an instruction needs of it.
-use Rattle.std.specs.Prelude.{◌≡◌, ℕ, ◌+◌, ◌<◌, ◌≤◌, ◌^◌, ℤ, List, length, take, slice_index, Option, option_map, if◌then◌else◌}
+use Rattle.std.specs.Prelude.{◌≡◌, ℕ, ◌+◌, ◌<◌, ◌≤◌, ◌^◌, ℤ, List, [], length, take, slice_index, slice_index_or, slice_set, Option, option_map, if◌then◌else◌}
 use Rattle.tcel_num.specs.Arithmetic.{is_unary}
 use Rattle.tcel_num.specs.Entry.{What}
 use Rattle.tcel_image.specs.declared.image.Instr.{Instr}
 use Rattle.tcel_image.specs.declared.image.Instr.TheVariants.{Const, Get, Put, GetAt, PutAt, Arith, Jump, Branch, Loop, Receive, Send, Hold, Copy, Mark, End}
-use Rattle.tcel_image.specs.Machine.{Running}
+use Rattle.tcel_image.specs.Machine.{Running, Outcome, effect}
 use Rattle.tcel_machine.specs.declared.entry.What as declared
 use Rattle.tcel_machine.specs.Seen.{seen}
 use Rattle.tcel_machine.specs.declared.task.Task.{Task}
@@ -26,6 +26,24 @@ running_of task =
 pub record Becomes (old new : Task) (after : Running) : Type 0 where
   pub task : running_of new ≡ after
   pub words : new.words ≡ old.words
+
+-- the task has done what this instruction does at its end, which asks for no input
+abbrev pub Does : Task → Task → Instr → Type 0
+Does old new instr = Becomes old new (effect old.words [] instr (running_of old)).task
+
+-- what an instruction does at its end in the task of this number, over a script's streams
+abbrev pub effect_in : Task → List (List (List ℤ)) → ℕ → Instr → Outcome
+effect_in task script number instr = effect task.words (slice_index_or script number []) instr (running_of task)
+
+-- on to the next instruction, with this value of an input in a cell
+abbrev pub received : ℕ → ℕ → ℤ → Running → Running
+received port cell value task =
+    record task {
+      cells = slice_set task.cells cell value;
+      place = task.place + 1;
+      spent = 0;
+      taken = slice_set task.taken port (slice_index task.taken port + 1);
+    }
 
 -- the stack holds so many words, and never more than 128
 abbrev pub Holds : ℕ → Running → Type 0

@@ -1,8 +1,8 @@
-ghost use Rattle.std.specs.Prelude.{◌≡◌, ◌+◌, ◌*◌, ◌<◌, ◌≤◌, ◌^◌, [], length, slice_index_or};
+ghost use Rattle.std.specs.Prelude.{◌≡◌, ◌+◌, ◌*◌, ◌<◌, ◌≤◌, ◌^◌, length};
 ghost use Rattle.tcel_image.specs.Instructions.{operator_cycles, cycles};
-ghost use Rattle.tcel_image.specs.Machine.{effect, is_last_cycle};
+ghost use Rattle.tcel_image.specs.Machine.{is_last_cycle};
 ghost use Rattle.tcel_image.specs.Spelling.{InstrInRange};
-ghost use Rattle.tcel_machine.specs.Task.{running_of, Becomes, CanRun, Shows};
+ghost use Rattle.tcel_machine.specs.Task.{running_of, effect_in, Becomes, CanRun, Shows};
 
 use crate::entry::What;
 use crate::task::Task;
@@ -14,8 +14,8 @@ use tcel_target::Costs;
 fn receive(task: &mut Task, script: &Script, number: usize, port: u32, cell: u32) -> Option<What>
     requires place { task.old.place < 65536 }
     requires can { CanRun (Instr.Receive port cell) (running_of task.old) }
-    ensures task { Becomes task.old task.new (effect task.old.words (slice_index_or script.now number []) (Instr.Receive port cell) (running_of task.old)).task }
-    ensures shown { Shows result task.new (effect task.old.words (slice_index_or script.now number []) (Instr.Receive port cell) (running_of task.old)).shown }
+    ensures task { Becomes task.old task.new (effect_in task.old script.now number (Instr.Receive port cell)).task }
+    ensures shown { Shows result task.new (effect_in task.old script.now number (Instr.Receive port cell)).shown }
 {
     let value = script.value(number, port as usize, task.taken[port as usize]);
     task.receive(port, cell, value);
@@ -28,8 +28,8 @@ pub(crate) fn execute(task: &mut Task, script: &Script, number: usize, instr: In
     requires can { CanRun instr (running_of task.old) }
     requires words { task.old.words ≤ length task.old.cells.items }
     requires ended { task.old.ended < 2 ^ 63 }
-    ensures task { Becomes task.old task.new (effect task.old.words (slice_index_or script.now number []) instr (running_of task.old)).task }
-    ensures shown { Shows result task.new (effect task.old.words (slice_index_or script.now number []) instr (running_of task.old)).shown }
+    ensures task { Becomes task.old task.new (effect_in task.old script.now number instr).task }
+    ensures shown { Shows result task.new (effect_in task.old script.now number instr).shown }
 {
     match instr {
         Instr::Const(value) => task.push(value),

@@ -15,6 +15,3 @@ mod turn;
 pub use entry::{Entry, What};
 pub use laws::no_step_takes_a_default;
 pub use machine::Machine;
-
-#[cfg(test)]
-mod tests;

@@ -1,8 +1,8 @@
-ghost use Rattle.std.specs.Prelude.{◌≡◌, ◌+◌, ◌<◌, ◌≤◌, ◌^◌, ◌∷◌, pos, length, slice_index, slice_index_or, slice_set, int_lt, if◌then◌else◌};
-ghost use Rattle.tcel_num.specs.Arithmetic.{is_unary, holds};
-ghost use Rattle.tcel_num.specs.Words.{element, with_element, copied};
-ghost use Rattle.tcel_image.specs.Machine.{go_on, move_to, top, below, applied, counted, end_frame};
-ghost use Rattle.tcel_machine.specs.Task.{running_of, Becomes, Holds, HasCells, state_of};
+ghost use Rattle.std.specs.Prelude.{◌≡◌, ◌<◌, ◌≤◌, ◌^◌, length, slice_index, if◌then◌else◌};
+ghost use Rattle.tcel_num.specs.Arithmetic.{is_unary};
+ghost use Rattle.tcel_image.specs.Machine.{go_on, top, below, applied, end_frame};
+ghost use Rattle.tcel_image.specs.declared.image.Instr.TheVariants as Instr;
+ghost use Rattle.tcel_machine.specs.Task.{running_of, Becomes, Does, Holds, HasCells, received, state_of};
 
 use crate::stack::Stack;
 use tcel_num::{Op, add};
@@ -25,7 +25,7 @@ pub(crate) struct Task {
 impl Task {
     /// Silently on to a place.
     pub(crate) fn move_to(&mut self, place: usize)
-        ensures { Becomes self.old self.new (move_to place self.old.stack self.old.cells.items (running_of self.old)).task }
+        ensures { Does self.old self.new (Instr.Jump place) }
     {
         self.place = place;
         self.spent = 0;
@@ -43,7 +43,7 @@ impl Task {
     pub(crate) fn push(&mut self, value: i64)
         requires place { self.old.place < 65536 }
         requires room { length self.old.stack < 128 }
-        ensures { Becomes self.old self.new (go_on (value ∷ self.old.stack) self.old.cells.items (running_of self.old)).task }
+        ensures { Does self.old self.new (Instr.Const value) }
     {
         self.stack.push(value);
         self.go_on();
@@ -53,7 +53,7 @@ impl Task {
         requires place { self.old.place < 65536 }
         requires room { length self.old.stack < 128 }
         requires cell { HasCells cell 1 (running_of self.old) }
-        ensures { Becomes self.old self.new (go_on (slice_index_or self.old.cells.items cell (pos 0) ∷ self.old.stack) self.old.cells.items (running_of self.old)).task }
+        ensures { Does self.old self.new (Instr.Get cell) }
     {
         let value = self.cells[cell as usize];
         self.push(value);
@@ -63,7 +63,7 @@ impl Task {
         requires place { self.old.place < 65536 }
         requires stack { Holds 1 (running_of self.old) }
         requires cell { HasCells cell 1 (running_of self.old) }
-        ensures { Becomes self.old self.new (go_on (below self.old.stack) (slice_set self.old.cells.items cell (top self.old.stack)) (running_of self.old)).task }
+        ensures { Does self.old self.new (Instr.Put cell) }
     {
         self.cells[cell as usize] = self.stack.pop();
         self.go_on();
@@ -73,7 +73,7 @@ impl Task {
         requires place { self.old.place < 65536 }
         requires stack { Holds 1 (running_of self.old) }
         requires cells { HasCells first size (running_of self.old) }
-        ensures { Becomes self.old self.new (go_on (element self.old.cells.items first size (top self.old.stack) ∷ below self.old.stack) self.old.cells.items (running_of self.old)).task }
+        ensures { Does self.old self.new (Instr.GetAt first size) }
     {
         let index = self.stack.pop();
         let value = element(self.cells.as_slice(), first as usize, size as usize, index);
@@ -84,7 +84,7 @@ impl Task {
         requires place { self.old.place < 65536 }
         requires stack { Holds 2 (running_of self.old) }
         requires cells { HasCells first size (running_of self.old) }
-        ensures { Becomes self.old self.new (go_on (below (below self.old.stack)) (with_element self.old.cells.items first size (top (below self.old.stack)) (top self.old.stack)) (running_of self.old)).task }
+        ensures { Does self.old self.new (Instr.PutAt first size) }
     {
         let value = self.stack.pop();
         let index = self.stack.pop();
@@ -101,7 +101,7 @@ impl Task {
     pub(crate) fn arith(&mut self, op: Op)
         requires place { self.old.place < 65536 }
         requires stack { Holds (if is_unary op then 1 else 2) (running_of self.old) }
-        ensures { Becomes self.old self.new (go_on (applied op self.old.stack) self.old.cells.items (running_of self.old)).task }
+        ensures { Does self.old self.new (Instr.Arith op) }
     {
         apply(&mut self.stack, op);
         self.go_on();
@@ -110,7 +110,7 @@ impl Task {
     pub(crate) fn branch(&mut self, target: u32)
         requires place { self.old.place < 65536 }
         requires stack { Holds 1 (running_of self.old) }
-        ensures { Becomes self.old self.new (move_to (if holds (top self.old.stack) then self.old.place + 1 else target) (below self.old.stack) self.old.cells.items (running_of self.old)).task }
+        ensures { Does self.old self.new (Instr.Branch target) }
     {
         let value = self.stack.pop();
         let place = if holds(value) {
@@ -124,7 +124,7 @@ impl Task {
     pub(crate) fn turn(&mut self, cell: u32, turns: u32, target: u32)
         requires place { self.old.place < 65536 }
         requires cell { HasCells cell 1 (running_of self.old) }
-        ensures { let count = counted self.old.cells.items cell in Becomes self.old self.new (move_to (if int_lt count (pos turns) then target else self.old.place + 1) self.old.stack (slice_set self.old.cells.items cell count) (running_of self.old)).task }
+        ensures { Does self.old self.new (Instr.Loop cell turns target) }
     {
         let count = add(self.cells[cell as usize], 1);
         self.cells[cell as usize] = count;
@@ -140,7 +140,7 @@ impl Task {
         requires place { self.old.place < 65536 }
         requires from { HasCells from size (running_of self.old) }
         requires to { HasCells to size (running_of self.old) }
-        ensures { Becomes self.old self.new (go_on self.old.stack (copied self.old.cells.items from to size) (running_of self.old)).task }
+        ensures { Does self.old self.new (Instr.Copy from to size) }
     {
         copy(
             self.cells.as_mut_slice(),
@@ -156,8 +156,7 @@ impl Task {
         requires cell { HasCells cell 1 (running_of self.old) }
         requires port { port < length self.old.taken.items }
         requires more { slice_index self.old.taken.items port < 2 ^ 63 }
-        ensures running { running_of self.new ≡ record (running_of self.old) { cells = slice_set self.old.cells.items cell value; place = self.old.place + 1; spent = 0; taken = slice_set self.old.taken.items port (slice_index self.old.taken.items port + 1) } }
-        ensures words { self.new.words ≡ self.old.words }
+        ensures { Becomes self.old self.new (received port cell value (running_of self.old)) }
     {
         self.cells[cell as usize] = value;
         self.taken[port as usize] += 1;

@@ -1,4 +1,4 @@
-ghost use Rattle.std.specs.Prelude.{◌≡◌, [], ◌∷◌, map};
+ghost use Rattle.std.specs.Prelude.{◌≡◌, map};
 ghost use Rattle.tcel_num.specs.Arithmetic.{unary_value, binary_value};
 ghost use Rattle.tcel_num.specs.Examples.{unary_examples, binary_examples};
 

@@ -1,5 +1,4 @@
 ghost use Rattle.std.specs.Prelude.{◌≡◌, [], ◌∷◌, Bool, true, false, IfOk, OnOk};
-ghost use Rattle.tcel_grammar.specs.Expressions.{IsToken};
 ghost use Rattle.tcel_grammar.specs.Machine.{is_word, more_decls, behind_keeper, behind_int, behind_bool, first_int, first_bool};
 ghost use Rattle.tcel_grammar.specs.Programs.{IsDecl, IsDecls, IsInt, IsBool};
 ghost use Rattle.tcel_token.specs.declared.keyword.Keyword.{Keyword};

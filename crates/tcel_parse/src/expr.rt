@@ -1,7 +1,7 @@
 ghost use Rattle.std.specs.Prelude.{◌≡◌, [], ◌∷◌, Bool, true, false, Some, None, IfOk, IfErr, OnOk};
-ghost use Rattle.tcel_grammar.specs.Expressions.{IsBinary, IsUnary, IsExpr, conjunction, comparison, sum, term, factor, atom};
+ghost use Rattle.tcel_grammar.specs.Expressions.{IsExpr, conjunction, comparison, sum, term, factor, atom};
 ghost use Rattle.tcel_grammar.specs.Statements.{IsWhole};
-ghost use Rattle.tcel_grammar.specs.Machine.{operand, behind_operand, compared_after, expr, goes_on, is_name, is_numeral, is_word, is_sign};
+ghost use Rattle.tcel_grammar.specs.Machine.{operand, behind_operand, expr, is_name, is_numeral, is_sign};
 ghost use Rattle.tcel_tree.specs.Plain.{plain_expr};
 ghost use Rattle.tcel_tree.specs.Language.{number, truth, variable, element, unary, binary};
 ghost use Rattle.tcel_token.specs.declared.sign.Sign.{Sign};

@@ -1,5 +1,5 @@
 ghost use Rattle.std.specs.Prelude.{◌≡◌};
-ghost use Rattle.tcel_grammar.specs.Expressions.{binary_of, unary_of, level_of};
+ghost use Rattle.tcel_grammar.specs.Expressions.{binary_of, unary_of};
 ghost use Rattle.tcel_grammar.specs.Faults.{is_opening, is_closing, is_border, is_operator};
 ghost use Rattle.tcel_grammar.specs.Machine.{is_word, is_sign, is_name, is_numeral};
 ghost use Rattle.tcel_token.specs.declared.token.TokenKind.{TokenKind};

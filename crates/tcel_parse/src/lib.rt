@@ -11,8 +11,6 @@ mod parser;
 mod parsing;
 mod stmt;
 mod task;
-#[cfg(test)]
-mod tests;
 mod window;
 
 pub use fail::ParseFail;

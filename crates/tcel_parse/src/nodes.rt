@@ -1,4 +1,4 @@
-ghost use Rattle.std.specs.Prelude.{◌≡◌, None, Some};
+ghost use Rattle.std.specs.Prelude.{◌≡◌};
 ghost use Rattle.tcel_tree.specs.Plain.{plain_expr, plain_stmt, plain_block};
 ghost use Rattle.tcel_tree.specs.Language.{assign, assign_at, receive, send, choice, for_loop, while_loop, timed};
 ghost use Rattle.tcel_parse.specs.Reading.{plain_branch};

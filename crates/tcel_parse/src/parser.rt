@@ -1,4 +1,4 @@
-ghost use Rattle.std.specs.Prelude.{◌≡◌, ◌<◌, [], ◌∷◌, length, true, pos, IfOk, OnOk, MatchResult};
+ghost use Rattle.std.specs.Prelude.{◌≡◌, ◌<◌, [], ◌∷◌, true, pos, IfOk, OnOk, MatchResult};
 ghost use Rattle.tcel_grammar.specs.Machine.{enter, within_limits, too_deep, is_word, is_sign, is_name, is_numeral};
 ghost use Rattle.tcel_grammar.specs.declared.deep.Deep.{Deep};
 ghost use Rattle.tcel_parse.specs.declared.fail.Stop.{Stop};

@@ -1,5 +1,4 @@
 ghost use Rattle.std.specs.Prelude.{◌≡◌, [], ◌∷◌, true, IfOk, OnOk};
-ghost use Rattle.tcel_grammar.specs.Expressions.{IsToken};
 ghost use Rattle.tcel_grammar.specs.Machine.{is_word, this_word, this_sign, any_name, any_number, task_block, more_decls, program, accepted};
 ghost use Rattle.tcel_grammar.specs.Programs.{IsEvery, IsTask, IsProgram};
 ghost use Rattle.tcel_token.specs.declared.keyword.Keyword.{Keyword};

@@ -2,7 +2,7 @@ ghost use Rattle.std.specs.Prelude.{◌≡◌, [], ◌∷◌, true, None, IfOk, 
 ghost use Rattle.tcel_grammar.specs.Machine.{is_word, do_clauses, behind_after, last_clause};
 ghost use Rattle.tcel_grammar.specs.Statements.{IsClause, IsWindow};
 ghost use Rattle.tcel_token.specs.declared.keyword.Keyword.{Keyword};
-ghost use Rattle.tcel_parse.specs.Reading.{left, sees, Gives, GoesOn, GoesNotBack};
+ghost use Rattle.tcel_parse.specs.Reading.{left, sees, Gives, GoesNotBack};
 
 use crate::fail::Stop;
 use crate::parser::Parser;

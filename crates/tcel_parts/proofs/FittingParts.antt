@@ -9,7 +9,7 @@ use Rattle.tcel_core.specs.Frames.{is_state}
 use Rattle.tcel_core.specs.Kinds.{Slicing, holds_kept, is_fetched}
 use Rattle.tcel_core.specs.Language.{Expr, number, variable, element, unary, binary, Block, done, next, joined, Stmt, item, choice, timed, Act, assign, assign_at, receive, send, for_loop, while_loop, copy, Task}
 use Rattle.tcel_core.specs.Limits.{IsCount, IsWithinBounds, StmtIsWithinBounds, ActIsWithinBounds}
-use Rattle.tcel_core.specs.Parts.{AreOwnParts, TaskParts, added, added_variable, all_variables, copies, copy_of, fetches, first_of_block, first_of_stmt, has_rest, inside_number, is_split, live_variables, number_of, parts_of, renamed_act, renamed_block, renamed_expr, renamed_stmt, rest_of_block, rest_of_stmt, restores, saved, saves, split_choice, truth_of, variables, slicing_of}
+use Rattle.tcel_core.specs.Parts.{added, added_variable, all_variables, copies, copy_of, fetches, first_of_block, first_of_stmt, has_rest, inside_number, is_split, live_variables, number_of, parts_of, renamed_act, renamed_block, renamed_expr, renamed_stmt, rest_of_block, rest_of_stmt, restores, saved, saves, split_choice, truth_of, variables, slicing_of}
 use Rattle.tcel_core.specs.Paths.{Point, at_item, at_test, points, stmt_points}
 use Rattle.tcel_core.specs.Scope.{ActFits, ActIsUntimed, AreAlike, AreTurns, Fits, HasWord, HaveOperands, IsInScope, IsSound, IsUntimed, LoopsAreUntimed, StmtFits, StmtIsUntimed, StmtLoopsAreUntimed}
 use Rattle.tcel_core.specs.Sound.{IsDeclared, IsKind, IsSoundTask}

@@ -1,4 +1,4 @@
-ghost use Rattle.std.specs.Prelude.{◌≡◌, ◌+◌, ◌++◌, ◌≤◌, ◌||◌, ◌&&◌, List, ℕ, Bool, [], ◌∷◌, IfOk, OnOk, false, length, slice_index_or, if◌then◌else◌};
+ghost use Rattle.std.specs.Prelude.{◌≡◌, ◌+◌, ◌++◌, ◌≤◌, ◌||◌, ◌&&◌, List, Bool, [], ◌∷◌, IfOk, OnOk, false, length, slice_index_or, if◌then◌else◌};
 ghost use Rattle.tcel_core.specs.Language.{Block, assign, choice, done, item, next, timed, variable};
 ghost use Rattle.tcel_core.specs.Parts.{copies, restores, saves};
 ghost use Rattle.tcel_core.specs.Paths.{points, stmt_points};
@@ -8,7 +8,7 @@ ghost use Rattle.tcel_rename.specs.Halves.{AddHalves, Adds, AreHalves, AreWithin
 ghost use Rattle.tcel_rename.specs.Sets.{by_list};
 
 use crate::numbers::Numbers;
-use crate::renaming::{number_of, renamed_expr, renamed_item};
+use crate::renaming::{renamed_expr, renamed_item};
 use crate::sets::Sets;
 use crate::splits::row_at;
 use sqlite_items::Items;

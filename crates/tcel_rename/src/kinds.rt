@@ -1,5 +1,5 @@
 ghost use Rattle.std.specs.Prelude.{◌≡◌, ◌<◌, ◌&&◌, ℕ, List};
-ghost use Rattle.tcel_core.specs.Language.{Block, choice, item};
+ghost use Rattle.tcel_core.specs.Language.{Block, item};
 ghost use Rattle.tcel_core.specs.Paths.{points, stmt_points};
 ghost use Rattle.tcel_core.specs.Plain.{plain_body, plain_expr, plain_item, plain_stmt};
 ghost use Rattle.tcel_core.specs.Rows.{stands_in};

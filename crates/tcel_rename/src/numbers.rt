@@ -1,4 +1,4 @@
-ghost use Rattle.std.specs.Prelude.{◌≡◌, ◌<◌, ◌≤◌, ◌^◌, ◌++◌, ◌∷◌, [], ℕ, if◌then◌else◌, IfOk, OnOk, false, flat_map, length, slice_index_or};
+ghost use Rattle.std.specs.Prelude.{◌≡◌, ◌<◌, ◌≤◌, ◌^◌, ◌++◌, ◌∷◌, [], if◌then◌else◌, IfOk, OnOk, false, flat_map, length, slice_index_or};
 ghost use Rattle.tcel_core.specs.Numbering.{item_numbers, numbers_from};
 ghost use Rattle.tcel_core.specs.Plain.{plain_body, plain_task};
 ghost use Rattle.tcel_core.specs.Rows.{stands_in};

@@ -1,4 +1,4 @@
-ghost use Rattle.std.specs.Prelude.{◌≡◌, ◌<◌, ◌||◌, ◌==◌, ◌&&◌, false, not, true, ℕ, Bool, List, length, slice_index_or};
+ghost use Rattle.std.specs.Prelude.{◌≡◌, ◌<◌, ◌||◌, ◌==◌, ◌&&◌, false, true, ℕ, Bool, List, length, slice_index_or};
 ghost use Rattle.std.specs.List.{list_any};
 ghost use Rattle.tcel_core.specs.Kinds.{is_live};
 ghost use Rattle.tcel_core.specs.Language.{Block};

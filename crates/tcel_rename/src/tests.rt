@@ -1,6 +1,6 @@
 ghost use Rattle.std.specs.Prelude.{◌≡◌, [], ◌∷◌, ◌++◌, IfOk, OnOk, codes};
 ghost use Rattle.tcel_core.specs.Examples.{int_var, one, plus};
-ghost use Rattle.tcel_core.specs.Language.{assign, done, for_loop, item, next, number, send, variable};
+ghost use Rattle.tcel_core.specs.Language.{assign, done, for_loop, item, next, send, variable};
 ghost use Rattle.tcel_core.specs.Plain.{plain_body, plain_expr, plain_task};
 ghost use Rattle.tcel_core.specs.SlicingExamples.{step_body};
 ghost use Rattle.tcel_core.specs.Sound.{IsSoundTask};

@@ -16,7 +16,7 @@ use Rattle.tcel_tree.specs.Language.{Expr, Block, Stmt, Branch, Task}
 use Rattle.tcel_grammar.specs.Expressions.{disjunction, IsPlaced, IsToken}
 use Rattle.tcel_grammar.specs.Statements.{IsWhole, IsNumber, numbered, IsClause, unsaid, said, IsWindow, window, IsBlock, block, IsStmts, no_more, one_more, IsStmt, assigned, assigned_at, received, sent, chosen, counted, repeated, done_in, IsBranch, no_else, with_else}
 use Rattle.tcel_grammar.specs.Programs as grammar
-use Rattle.tcel_grammar.specs.Programs.{IsFirst, unset, set, set_below, IsFirstTruth, unset_truth, set_true, set_false, IsInt, an_array, a_local, a_state, IsBool, a_local_truth, a_state_truth, IsDecl, an_input, an_output, an_int, a_bool, IsDecls, no_decl, one_decl, IsEvery, every, IsTask, task, IsProgram, last_task, one_task}
+use Rattle.tcel_grammar.specs.Programs.{IsFirst, unset, set, set_below, IsFirstTruth, unset_truth, set_true, set_false, IsInt, an_array, a_local, a_state, IsBool, a_local_truth, a_state_truth, IsDecl, an_input, an_output, an_int, a_bool, IsDecls, no_decl, one_decl, every, IsTask, task, IsProgram, last_task, one_task}
 use Rattle.tcel_show.specs.Canonical.{whole_tokens, word, clause_tokens, window_tokens, braced, block_tokens, stmt_tokens, branch_tokens, first_tokens, first_truth_tokens, keeper, front_tokens, back_tokens, decl_tokens, task_tokens, program_tokens}
 use Rattle.tcel_show.proofs.Lighter.{Lightens, nothing, token_then, placed_then, then, unsigned_then}
 use Rattle.tcel_show.proofs.LighterExprs.{expr_fits}

@@ -1,15 +1,14 @@
-ghost use Rattle.std.specs.Prelude.{◌≡◌, ◌++◌, [], ◌∷◌, OnOk};
+ghost use Rattle.std.specs.Prelude.{OnOk};
 ghost use Rattle.tcel_show.specs.Canonical.{block_tokens, braced, stmt_tokens};
 ghost use Rattle.tcel_show.specs.Puts.{Puts};
 ghost use Rattle.tcel_token.specs.declared.keyword.Keyword.{Keyword};
 ghost use Rattle.tcel_token.specs.declared.sign.Sign.{Sign};
-ghost use Rattle.tcel_token.specs.declared.token.TokenKind.{TokenKind};
 ghost use Rattle.tcel_tree.specs.Plain.{plain_block, plain_stmt};
 
 use crate::writer::Writer;
-use tcel_num::{Name, NoMemory};
+use tcel_num::NoMemory;
 use tcel_token::{Keyword, Sign};
-use tcel_tree::{Placed, Stmt, StmtKind};
+use tcel_tree::{Stmt, StmtKind};
 
 impl Writer {
     /// A block, in braces.

@@ -1,4 +1,4 @@
-ghost use Rattle.std.specs.Prelude.{◌≡◌, [], ◌∷◌, OnOk, if◌then◌else◌};
+ghost use Rattle.std.specs.Prelude.{[], ◌∷◌, OnOk, if◌then◌else◌};
 ghost use Rattle.tcel_show.specs.Canonical.{expr_tokens, op_token, truth_token, whole_tokens};
 ghost use Rattle.tcel_show.specs.Levels.{plain_level};
 ghost use Rattle.tcel_show.specs.Puts.{Puts};

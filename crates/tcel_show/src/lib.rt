@@ -9,8 +9,6 @@ mod level;
 mod put;
 mod stmts;
 mod tasks;
-#[cfg(test)]
-mod tests;
 mod writer;
 
 pub use examples::text_examples;

@@ -1,4 +1,4 @@
-ghost use Rattle.std.specs.Prelude.{◌≡◌, ◌++◌, [], ◌∷◌, codes, false, map};
+ghost use Rattle.std.specs.Prelude.{◌≡◌, [], ◌∷◌, codes, false, map};
 ghost use Rattle.tcel_num.specs.Name.{reserved_words};
 ghost use Rattle.tcel_token.specs.Examples.{at, first_line, less_is, letters, name, number, tokens, two_line_tokens, two_lines, two_slashes, two_words};
 ghost use Rattle.tcel_token.specs.Pieces.{are_pieces};

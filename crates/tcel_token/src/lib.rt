@@ -8,8 +8,6 @@ mod laws;
 mod lexeme;
 mod scan;
 mod sign;
-#[cfg(test)]
-mod tests;
 mod token;
 
 pub use examples::token_examples;

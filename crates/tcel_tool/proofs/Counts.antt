@@ -5,7 +5,7 @@ use Rattle.std.proofs.lemmas.Int.{SFits-int_wrap, int_wrap-add_same, int_wrap_fi
 use Rattle.std.proofs.lemmas.List.Sums.{sum_by-append}
 use Rattle.std.specs.Int.{w64}
 use Rattle.std.specs.Prelude.{FitsSigned, length, option_to_list}
-use Rattle.tcel_image.specs.Machine.{Streams, entries, trace}
+use Rattle.tcel_image.specs.Machine.{Streams, trace}
 use Rattle.tcel_image.specs.declared.image.Image.{Image}
 use Rattle.tcel_image.specs.declared.image.ImageTask.{ImageTask}
 use Rattle.tcel_image.specs.Machine.{Running}
@@ -13,7 +13,7 @@ use Rattle.tcel_machine.specs.Run.{Run, Tells, after_tick, entry_seen, loaded, s
 use Rattle.tcel_machine.specs.Seen.{seen}
 use Rattle.tcel_machine.specs.declared.entry.Entry as declared
 use Rattle.tcel_num.specs.Arithmetic.{wrapped}
-use Rattle.tcel_num.specs.Entry.{Entry, What}
+use Rattle.tcel_num.specs.Entry.{Entry}
 use Rattle.tcel_tool.specs.Counting.{Adds, Counted, counts_text, entries_ahead, none_counted}
 use Rattle.tcel_tool.specs.Headline.{image_for}
 use Rattle.tcel_tool.specs.SetChoice.{Choice}

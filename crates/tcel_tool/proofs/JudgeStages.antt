@@ -31,7 +31,7 @@ use Rattle.tcel_tool.specs.JudgeCommand.{IsBreach, IsJudged, IsText, RefusesBrea
 use Rattle.tcel_tool.specs.MeanCommand.{Means, RefusesInputs}
 use Rattle.tcel_tool.specs.ScriptText as scripts
 use Rattle.tcel_tool.specs.SetChoice.{Choice, IsChoiceFor, Names, NamesTask, name_at, told_task}
-use Rattle.tcel_tool.specs.Stage.{Call, Stage, load, test}
+use Rattle.tcel_tool.specs.Stage.{Call, load, test}
 use Rattle.tcel_tool.specs.Test as tests
 use Rattle.tcel_tool.specs.declared.command.Command.TheVariants.{Judge}
 use Rattle.tcel_tool.specs.declared.status.Status.{Status}
@@ -145,6 +145,17 @@ pub record ReadScript (call : Call) (c : Choice) (shelf next : SeenShelf) (text 
   pub for : IsChoiceFor (call.read 1) (call.read 2) c
   pub loaded : Loads call.words 3 16777216 shelf next text
   pub streams_in : script_of (port_rows c.set) text ≡ Ok streams
+
+-- where the words are the call's, and the bytes read are the text
+pub script_read : (call : Call) (c : Choice) (words : List (List ℕ)) (shelf next : SeenShelf) (text given : List ℕ) (streams : Streams)
+    → IsChoiceFor (call.read 1) (call.read 2) c → call.words ≡ words → Loads words 3 16777216 shelf next text → given ≡ text
+    → script_of (port_rows c.set) given ≡ Ok streams → ReadScript call c shelf next text streams
+script_read call c words shelf next text given streams for same loaded is streams_in =
+    record {
+      for = for;
+      loaded = loads_own call words 3 16777216 shelf next text same loaded;
+      streams_in = subst (λ t. script_of (port_rows c.set) t ≡ Ok streams) is streams_in;
+    }
 
 -- it is refused
 pub faulty_script : (call : Call) (c : Choice) (text given : List ℕ) (status : Status) → IsChoiceFor (call.read 1) (call.read 2) c → given ≡ text

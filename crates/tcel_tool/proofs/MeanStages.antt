@@ -1,13 +1,11 @@
 -- How `mean` goes on behind the program that it reads, behind its faults, its second load and its script.
 use Rattle.std.proofs.Common.{◌≡◌, ◌∙◌, ℕ, ◌≤◌, List, [], ◌∷◌, Ok, ap, inl, inr, subst}
-use Rattle.tcel_check.specs.Answers.{IsCheckable}
 use Rattle.tcel_check.specs.Checked.{set_of}
 use Rattle.tcel_check.specs.Rows.{marks}
 use Rattle.tcel_core.specs.Language as core
 use Rattle.tcel_core.specs.Ports.{port_rows}
 use Rattle.tcel_io.specs.Shelf.{SeenShelf}
 use Rattle.tcel_script.specs.Script.{Streams, script_of}
-use Rattle.tcel_token.specs.Terminal.{terminals}
 use Rattle.tcel_tree.specs.Language.{Task}
 use Rattle.tcel_tool.specs.Answer.{Ended, Goes, Loads, OrMemory, begun}
 use Rattle.tcel_tool.specs.CheckCommand.{IsFaultless, RefusesFaults, RefusesTasks}

@@ -2,7 +2,7 @@
 use Rattle.std.proofs.Common.{◌≡◌, ℕ, List, [], ◌∷◌, ◌++◌, Option, Result, sym, subst, inl, inr}
 use Rattle.std.specs.Prelude.{IsErrAnd}
 use Rattle.tcel_io.specs.Shelf.{SeenShelf}
-use Rattle.tcel_tool.specs.Answer.{Ended, Goes, Stops, status_of, with_read}
+use Rattle.tcel_tool.specs.Answer.{Ended, Goes, status_of, with_read}
 use Rattle.tcel_tool.specs.MadeText.{made_text}
 use Rattle.tcel_tool.specs.Stage.{Call, Stage, load, make, bound, test}
 use Rattle.tcel_tool.specs.Stretch.{Passed, Stopped}

@@ -1,5 +1,5 @@
 -- The task that a refusal of a set tells is one of the set.
-use Rattle.std.proofs.Common.{◌≡◌, ℕ, ◌<◌, List, Option, length, arith}
+use Rattle.std.proofs.Common.{◌≡◌, ℕ, List, Option, arith}
 use Rattle.std.proofs.lemmas.Option.{slice_get_within}
 use Rattle.std.specs.Prelude.{IfSome}
 use Rattle.tcel_core.specs.Language.{Task}
@@ -7,7 +7,6 @@ use Rattle.tcel_driver.proofs.Costed.{sliced_long}
 use Rattle.tcel_driver.specs.Refusals.{Refuses}
 use Rattle.tcel_driver.specs.declared.refused.Refused.{Refused}
 use Rattle.tcel_driver.specs.declared.refused.Refused.TheVariants as causes
-use Rattle.tcel_num.specs.Lateness.{Lateness}
 use Rattle.tcel_target.specs.declared.costs.Costs.{Costs}
 use Rattle.tcel_tool.specs.SetChoice.{Names, name_at, status_for, told_task}
 

@@ -1,8 +1,6 @@
 -- Worked texts of `mean`.
 use Rattle.std.specs.Prelude.{ℕ, pos, List, [], ◌∷◌, ◌++◌, codes}
 use Rattle.tcel_core.specs.Examples.{alarm, counter}
-use Rattle.tcel_core.specs.Language.{Task}
-use Rattle.tcel_script.specs.Script.{Streams}
 use Rattle.tcel_tool.specs.MeanText.{mean_pieces}
 
 -- the alarm receives 1 and then 0

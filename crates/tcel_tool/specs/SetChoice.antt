@@ -19,7 +19,6 @@ use Rattle.tcel_tool.specs.ProgramText.{program_limit}
 use Rattle.tcel_tool.specs.Stage.{Stage, load, test}
 use Rattle.tcel_tool.specs.TargetText.{GivesCosts, target_limit}
 use Rattle.tcel_tool.specs.Test as tests
-use Rattle.tcel_tool.specs.declared.status.LimitFault.{LimitFault}
 use Rattle.tcel_tool.specs.declared.status.LimitFault.TheVariants as limits
 use Rattle.tcel_tool.specs.declared.status.Status.{Status}
 use Rattle.tcel_tool.specs.declared.status.Status.TheVariants as statuses

@@ -4,7 +4,7 @@ use Rattle.std.specs.Fmt.{decimal, signed_decimal}
 use Rattle.std.specs.List.{count_by}
 use Rattle.tcel_image.specs.Machine.{Streams, trace}
 use Rattle.tcel_num.specs.Arithmetic.{wrapped}
-use Rattle.tcel_num.specs.Entry.{Entry, What, receive, send, first, end}
+use Rattle.tcel_num.specs.Entry.{Entry, What, receive, send, end}
 use Rattle.tcel_tool.specs.Headline.{image_for}
 use Rattle.tcel_tool.specs.SetChoice.{Choice}
 

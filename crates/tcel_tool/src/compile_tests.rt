@@ -5,12 +5,14 @@ use std::test::Fail;
 /// Programs without a fault that no image is written for: with the exit status and the fault line of each.
 const REFUSED: [(&str, u8, &str); 7] = [
     (
-        "task t priority 1 { input s; output o; state int n; local int x; every 12 { receive x from s; n := n + x; x := x + 1; send x to o; } }",
+        "task t priority 1 { input s; output o; state int n; local int x; every 12 { receive x from s; n := n + x; \
+        x := x + 1; send x to o; } }",
         1,
         "rejected: overload demand 17 hyperperiod 12\n",
     ),
     (
-        "task t priority 1 { input s; output o; state int n; local int x; every 30 finish within 9 { receive x from s; n := n + x; x := x + 1; send x to o; } }",
+        "task t priority 1 { input s; output o; state int n; local int x; every 30 finish within 9 { receive x from s; \
+        n := n + x; x := x + 1; send x to o; } }",
         1,
         "rejected: late task t frame 0 point frame response 10 bound 9\n",
     ),
@@ -25,7 +27,8 @@ const REFUSED: [(&str, u8, &str); 7] = [
         "rejected: late task b frame 0 point frame response 3 bound 2\n",
     ),
     (
-        "task t priority 1 { state int n; local int i; local int j; local int k; every 1000000000 { for i < 10 { for j < 4096 { for k < 4096 { n := n + 1; } } } } }",
+        "task t priority 1 { state int n; local int i; local int j; local int k; every 1000000000 { for i < 10 { \
+        for j < 4096 { for k < 4096 { n := n + 1; } } } } }",
         3,
         "limit: cycles 1174609974 above 1000000000 in task t\n",
     ),
@@ -44,17 +47,20 @@ const REFUSED: [(&str, u8, &str); 7] = [
 /// Programs of which the image is run for 30 ticks, with the script and the lines of each. The first is compiled as it stands, the others sliced.
 const RUN: [(&str, &str, &str); 4] = [
     (
-        "task t priority 1 { input s; output o; state int n; local int x; every 30 finish within 13 { receive x from s; n := n + x; x := x + 1; send x to o; } }",
+        "task t priority 1 { input s; output o; state int n; local int x; every 30 finish within 13 { \
+        receive x from s; n := n + x; x := x + 1; send x to o; } }",
         "t s 2\n",
         "1 t 0 receive s 2\n11 t 0 send o 3\n12 t 0 first\n13 t 0 end n=2\n",
     ),
     (
-        "task t priority 1 { input s; output o; state int n; local int x; every 30 finish within 11 { receive x from s; n := n + x; x := x + 1; send x to o; } }",
+        "task t priority 1 { input s; output o; state int n; local int x; every 30 finish within 11 { \
+        receive x from s; n := n + x; x := x + 1; send x to o; } }",
         "t s 2\n",
         "1 t 0 receive s 2\n9 t 0 send o 3\n10 t 0 first\n17 t 0 end n=2\n",
     ),
     (
-        "task t priority 1 { input s; output o; state int n; local int x; every 30 finish within 4 { receive x from s; send x to o; n := n + 1; } }",
+        "task t priority 1 { input s; output o; state int n; local int x; every 30 finish within 4 { receive x from s; \
+        send x to o; n := n + 1; } }",
         "t s 5 6\n",
         "1 t 0 receive s 5\n3 t 0 send o 5\n4 t 0 first\n9 t 0 end n=1\n",
     ),

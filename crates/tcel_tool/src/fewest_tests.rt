@@ -7,16 +7,29 @@ use tcel_io::PutFail;
 /// Programs, and which tasks have to be sliced in each.
 const FEWEST: [(&str, &str); 8] = [
     (
-        "task hi priority 2 { input s; state int n; local int x; local int i; every 70 { receive x from s; for i < 3 { n := n + x; } } } task lo priority 1 { input s; output o; state int y; state int a; state int b; state int c; local int x; local int z; local int i; local int j; every 100 { receive x from s; receive z from s; send x to o; for i < 3 { y := y + z; } send y to o; for j < 3 { a := a + x; } b := b + z; c := c + x; } }",
+        "task hi priority 2 { input s; state int n; local int x; local int i; every 70 { receive x from s; for i < 3 { \
+        n := n + x; } } } task lo priority 1 { input s; output o; state int y; state int a; state int b; state int c; \
+        local int x; local int z; local int i; local int j; every 100 { receive x from s; receive z from s; \
+        send x to o; for i < 3 { y := y + z; } send y to o; for j < 3 { a := a + x; } b := b + z; c := c + x; } }",
         "fewest 1 of 2\nslice lo\nset none late task lo frame 0 point frame response 113 bound 100\n",
     ),
     (
-        "task t0 priority 100 { input s; output o; state int n; local int x; local int i; every 4000 finish within 100 { receive x from s; send x + 0 to o; for i < 2 { n := n + x; } n := n + x; n := n + x; n := n + x; n := n + x; n := n + x; n := n + x; n := n + x; n := n + x; n := n + x; n := n + x; n := n + x; n := n + x; n := n + x; n := n + x; n := n + x; n := n + x; n := n + x; n := n + x; n := n + x; n := n + x; } } task t1 priority 99 { input s; output o; state int n; local int x; local int i; every 8000 finish within 240 { receive x from s; send x + 1 to o; for i < 5 { n := n + x; } n := n + x; n := n + x; n := n + x; n := n + x; n := n + x; n := n + x; n := n + x; n := n + x; n := n + x; n := n + x; n := n + x; n := n + x; n := n + x; n := n + x; n := n + x; n := n + x; n := n + x; n := n + x; n := n + x; n := n + x; } }",
-        "fewest 1 of 2\nslice t0\nset none late task t0 frame 0 point frame response 102 bound 100\nset t1 late task t0 frame 0 point frame response 102 bound 100\n",
+        "task t0 priority 100 { input s; output o; state int n; local int x; local int i; \
+        every 4000 finish within 100 { receive x from s; send x + 0 to o; for i < 2 { n := n + x; } n := n + x; \
+        n := n + x; n := n + x; n := n + x; n := n + x; n := n + x; n := n + x; n := n + x; n := n + x; n := n + x; \
+        n := n + x; n := n + x; n := n + x; n := n + x; n := n + x; n := n + x; n := n + x; n := n + x; n := n + x; \
+        n := n + x; } } task t1 priority 99 { input s; output o; state int n; local int x; local int i; \
+        every 8000 finish within 240 { receive x from s; send x + 1 to o; for i < 5 { n := n + x; } n := n + x; \
+        n := n + x; n := n + x; n := n + x; n := n + x; n := n + x; n := n + x; n := n + x; n := n + x; n := n + x; \
+        n := n + x; n := n + x; n := n + x; n := n + x; n := n + x; n := n + x; n := n + x; n := n + x; n := n + x; \
+        n := n + x; } }",
+        "fewest 1 of 2\nslice t0\nset none late task t0 frame 0 point frame response 102 bound 100\n\
+        set t1 late task t0 frame 0 point frame response 102 bound 100\n",
     ),
     (
         "task t priority 1 { output o; every 100 { do start after 10 finish within 5 { send 1 to o; } } }",
-        "fewest none of 1\nset none late task t frame 0 point within 1 response 12 bound 5\nset t late task t frame 0 point within 1 response 12 bound 5\n",
+        "fewest none of 1\nset none late task t frame 0 point within 1 response 12 bound 5\n\
+        set t late task t frame 0 point within 1 response 12 bound 5\n",
     ),
     (
         "task t priority 1 { input s; output o; state int n; local int x; every 10 { receive x from s; send x to o; n := n + 1; } }",
@@ -27,7 +40,8 @@ const FEWEST: [(&str, &str); 8] = [
         "fewest 1 of 2\nslice a\nset none overload demand 12 hyperperiod 8\nset b overload demand 10 hyperperiod 8\n",
     ),
     (
-        "task a priority 2 { every 3 { if true { } } } task b priority 1 { input s; output o; state int n; local int x; every 48 { receive x from s; n := n + x; x := x + 1; send x to o; } }",
+        "task a priority 2 { every 3 { if true { } } } task b priority 1 { input s; output o; state int n; \
+        local int x; every 48 { receive x from s; n := n + x; x := x + 1; send x to o; } }",
         "fewest 1 of 2\nslice a\nset none overload demand 77 hyperperiod 48\nset b overload demand 81 hyperperiod 48\n",
     ),
     (
@@ -36,7 +50,8 @@ const FEWEST: [(&str, &str); 8] = [
     ),
     (
         "task a priority 2 { every 3 { if true { } } } task b priority 1 { every 3 { if true { } } }",
-        "fewest none of 2\nset none overload demand 8 hyperperiod 3\nset b overload demand 6 hyperperiod 3\nset a overload demand 6 hyperperiod 3\nset a+b overload demand 4 hyperperiod 3\n",
+        "fewest none of 2\nset none overload demand 8 hyperperiod 3\nset b overload demand 6 hyperperiod 3\n\
+        set a overload demand 6 hyperperiod 3\nset a+b overload demand 4 hyperperiod 3\n",
     ),
 ];
 

@@ -1,9 +1,7 @@
 use crate::status::Status;
-use crate::tests::{Left, UNIT};
-use crate::tool::tcel;
-use std::alloc::Global;
+use crate::tests::{Fails, NONE, run_four};
 use std::test::Fail;
-use tcel_io::{MemFile, MemShelf, MemSink, PutFail};
+use tcel_io::PutFail;
 
 /// A task that counts and sends, and one that passes on what it receives, each every 20 ticks.
 const PAIR: &str =
@@ -63,55 +61,12 @@ const REFUSED: [(&str, &str, &str, u8, &str); 4] = [
     ),
 ];
 
-fn file(alloc: Global, name: &str, bytes: &[u8]) -> Result<MemFile, Fail> {
-    Ok(MemFile {
-        name: String::from_str(alloc, name)?,
-        bytes: Vec::from_slice(alloc, bytes)?,
-    })
-}
-
-/// What a call of these words leaves, over a program, links and a script.
-fn linked(
-    alloc: Global,
-    words: &[&str],
-    program: &[u8],
-    links: &[u8],
-    script: &[u8],
-    fail: Option<PutFail>,
-) -> Result<Left, Fail> {
-    let mut texts = Vec::new(alloc);
-    for word in words {
-        texts.push(String::from_str(alloc, *word)?)?;
-    }
-    let files = vec![in alloc;
-        file(alloc, "p", program)?,
-        file(alloc, "t", UNIT)?,
-        file(alloc, "l", links)?,
-        file(alloc, "s", script)?,
-    ]?;
-    let mut fails = Vec::new(alloc);
-    if let Some(fail) = fail {
-        fails.push(fail)?;
-    }
-    let mut shelf = MemShelf::new(alloc, files, Vec::new(alloc));
-    let mut out = MemSink::new(alloc, 1000, fails).map_err(|_| "memory")?;
-    let mut err = MemSink::new(alloc, 1000, Vec::new(alloc)).map_err(|_| "memory")?;
-    let status = tcel(alloc, &texts, &mut shelf, &mut out, &mut err);
-    Ok(Left { status, out, err })
-}
-
 #[test]
 fn runs_linked_tasks(rt: HostRuntime) -> Result<(), Fail> {
     for (program, script, ticks, trace) in TRACES {
         let words = ["linked", "p", "t", "l", "s", ticks];
-        let left = linked(
-            rt.alloc(),
-            &words,
-            program.as_bytes(),
-            LINK.as_bytes(),
-            script.as_bytes(),
-            None,
-        )?;
+        let files = (program.as_bytes(), LINK.as_bytes(), script.as_bytes());
+        let left = run_four(rt.alloc(), &words, files, NONE)?;
         assert_eq!(rt; left.out.bytes(), trace.as_bytes());
         assert_eq!(rt; left.err.bytes(), b"".as_slice());
         assert_eq!(rt; left.status, Status::Ok);
@@ -123,14 +78,8 @@ fn runs_linked_tasks(rt: HostRuntime) -> Result<(), Fail> {
 fn refuses_links_before_scripts(rt: HostRuntime) -> Result<(), Fail> {
     for (links, script, ticks, code, line) in REFUSED {
         let words = ["linked", "p", "t", "l", "s", ticks];
-        let left = linked(
-            rt.alloc(),
-            &words,
-            PAIR.as_bytes(),
-            links.as_bytes(),
-            script.as_bytes(),
-            None,
-        )?;
+        let files = (PAIR.as_bytes(), links.as_bytes(), script.as_bytes());
+        let left = run_four(rt.alloc(), &words, files, NONE)?;
         assert_eq!(rt; left.out.bytes(), b"".as_slice());
         assert_eq!(rt; left.err.bytes(), line.as_bytes());
         assert_eq!(rt; left.status.code(), code);
@@ -141,15 +90,12 @@ fn refuses_links_before_scripts(rt: HostRuntime) -> Result<(), Fail> {
 #[test]
 fn a_put_of_a_linked_run_that_fails_ends_it(rt: HostRuntime) -> Result<(), Fail> {
     let words = ["linked", "p", "t", "l", "s", "40"];
-    let cut = PutFail { call: 2, taken: 3 };
-    let left = linked(
-        rt.alloc(),
-        &words,
-        PAIR.as_bytes(),
-        LINK.as_bytes(),
-        b"",
-        Some(cut),
-    )?;
+    let fails = Fails {
+        out: Some(PutFail { call: 2, taken: 3 }),
+        ..NONE
+    };
+    let files = (PAIR.as_bytes(), LINK.as_bytes(), b"".as_slice());
+    let left = run_four(rt.alloc(), &words, files, fails)?;
     assert_eq!(rt; left.out.bytes(), b"6 p 0 send o 1\n7 p".as_slice());
     assert_eq!(rt; left.err.bytes(), b"write fault\n".as_slice());
     assert_eq!(rt; left.status, Status::WriteFault);

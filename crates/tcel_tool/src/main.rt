@@ -37,6 +37,8 @@ mod format_tests;
 mod formed;
 mod headline;
 mod judge;
+#[cfg(test)]
+mod judge_tests;
 mod linked;
 #[cfg(test)]
 mod linked_tests;

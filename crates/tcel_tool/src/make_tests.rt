@@ -4,7 +4,17 @@ use std::test::Fail;
 
 /// The program of two tasks of seed 1.
 const TWO_TASKS: &str =
-    "task t0 priority 100 {\n  input s;\n  output o;\n  state int n;\n  local int x;\n  local int i;\n  every 4000 finish within 100 {\n    receive x from s;\n    send x + 0 to o;\n    for i < 2 {\n      n := n + x;\n    }\n    n := n + x;\n    n := n + x;\n    n := n + x;\n    n := n + x;\n    n := n + x;\n    n := n + x;\n    n := n + x;\n    n := n + x;\n    n := n + x;\n    n := n + x;\n    n := n + x;\n    n := n + x;\n    n := n + x;\n    n := n + x;\n    n := n + x;\n    n := n + x;\n    n := n + x;\n    n := n + x;\n    n := n + x;\n    n := n + x;\n  }\n}\ntask t1 priority 99 {\n  input s;\n  output o;\n  state int n;\n  local int x;\n  local int i;\n  every 8000 finish within 240 {\n    receive x from s;\n    send x + 1 to o;\n    for i < 5 {\n      n := n + x;\n    }\n    n := n + x;\n    n := n + x;\n    n := n + x;\n    n := n + x;\n    n := n + x;\n    n := n + x;\n    n := n + x;\n    n := n + x;\n    n := n + x;\n    n := n + x;\n    n := n + x;\n    n := n + x;\n    n := n + x;\n    n := n + x;\n    n := n + x;\n    n := n + x;\n    n := n + x;\n    n := n + x;\n    n := n + x;\n    n := n + x;\n  }\n}\n";
+    "task t0 priority 100 {\n  input s;\n  output o;\n  state int n;\n  local int x;\n  local int i;\n  \
+    every 4000 finish within 100 {\n    receive x from s;\n    send x + 0 to o;\n    for i < 2 {\n      \
+    n := n + x;\n    }\n    n := n + x;\n    n := n + x;\n    n := n + x;\n    n := n + x;\n    n := n + x;\n    \
+    n := n + x;\n    n := n + x;\n    n := n + x;\n    n := n + x;\n    n := n + x;\n    n := n + x;\n    \
+    n := n + x;\n    n := n + x;\n    n := n + x;\n    n := n + x;\n    n := n + x;\n    n := n + x;\n    \
+    n := n + x;\n    n := n + x;\n    n := n + x;\n  }\n}\ntask t1 priority 99 {\n  input s;\n  output o;\n  \
+    state int n;\n  local int x;\n  local int i;\n  every 8000 finish within 240 {\n    receive x from s;\n    \
+    send x + 1 to o;\n    for i < 5 {\n      n := n + x;\n    }\n    n := n + x;\n    n := n + x;\n    \
+    n := n + x;\n    n := n + x;\n    n := n + x;\n    n := n + x;\n    n := n + x;\n    n := n + x;\n    \
+    n := n + x;\n    n := n + x;\n    n := n + x;\n    n := n + x;\n    n := n + x;\n    n := n + x;\n    \
+    n := n + x;\n    n := n + x;\n    n := n + x;\n    n := n + x;\n    n := n + x;\n    n := n + x;\n  }\n}\n";
 
 /// Words that a program isn't made for, with the exit status and the fault line.
 const REFUSED: [(&[&str], u8, &str); 6] = [

@@ -4,11 +4,14 @@ use std::test::Fail;
 
 /// Sends one value or two, the first of them by 15.
 const ALARM: &[u8] =
-    b"task t priority 1 { input s; output o; state int n; local int x; every 20 { receive x from s; do start before 15 { if x > 0 { n := n + 1; } else { send n to o; } send 5 to o; } } }";
+    b"task t priority 1 { input s; output o; state int n; local int x; every 20 { receive x from s; \
+    do start before 15 { if x > 0 { n := n + 1; } else { send n to o; } send 5 to o; } } }";
 
 /// Reads and writes an array out of range, and divides at the edges.
 const EDGE: &[u8] =
-    b"task t priority 1 { input s; output o; state int a[2]; local int x; every 60 { a[5] := 7; send a[5] to o; x := -9223372036854775807 - 1; send x / -1 to o; send x % -1 to o; send 4 / 0 to o; receive x from s; send x to o; } }";
+    b"task t priority 1 { input s; output o; state int a[2]; local int x; every 60 { a[5] := 7; send a[5] to o; \
+    x := -9223372036854775807 - 1; send x / -1 to o; send x % -1 to o; send 4 / 0 to o; receive x from s; \
+    send x to o; } }";
 
 /// Compares what a call of `mean` leaves, where the output has room for 3000 bytes.
 fn compare(
@@ -37,7 +40,8 @@ fn writes_events_and_states(rt: HostRuntime) -> Result<(), Fail> {
         b"t 0 receive s 1 0 20\nt 0 send o 5 0 15\nt 0 end n=1\nt 1 receive s 0 0 20\nt 1 send o 1 0 15\nt 1 send o 5 0 20\nt 1 end n=1\n";
     compare(&rt, (ALARM, b"t s 1 0\n"), "2", 0, (alarm, b""))?;
     let edge =
-        b"t 0 send o 0 0 60\nt 0 send o -9223372036854775808 0 60\nt 0 send o 0 0 60\nt 0 send o 0 0 60\nt 0 receive s 0 0 60\nt 0 send o 0 0 60\nt 0 end a=[0,0]\n";
+        b"t 0 send o 0 0 60\nt 0 send o -9223372036854775808 0 60\nt 0 send o 0 0 60\nt 0 send o 0 0 60\n\
+        t 0 receive s 0 0 60\nt 0 send o 0 0 60\nt 0 end a=[0,0]\n";
     compare(&rt, (EDGE, b""), "1", 0, (edge, b""))
 }
 

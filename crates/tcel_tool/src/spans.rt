@@ -1,4 +1,4 @@
-ghost use Rattle.std.specs.Prelude.{◌≡◌, ◌≢◌, ◌≤◌, ◌^◌, IfOk, OnErr, OnOk, vec_capacity};
+ghost use Rattle.std.specs.Prelude.{◌≢◌, ◌≤◌, ◌^◌, IfOk, OnErr, OnOk, vec_capacity};
 ghost use Rattle.tcel_core.specs.Plain.{plain_set};
 ghost use Rattle.tcel_demand.specs.Sound.{AreSound};
 ghost use Rattle.tcel_io.specs.InTurn.{AreCutOff, AreTaken};

@@ -7,10 +7,12 @@ use tcel_io::{MemFile, MemShelf, MemSink, PutFail};
 use tcel_target::TargetFail;
 
 pub(crate) const ECHO: &[u8] =
-    b"task t priority 1 {\n  input s;\n  output o;\n  state int n;\n  local int x;\n  every 10 {\n    receive x from s;\n    send x to o;\n    n := n + 1;\n  }\n}\n";
+    b"task t priority 1 {\n  input s;\n  output o;\n  state int n;\n  local int x;\n  every 10 {\n    \
+    receive x from s;\n    send x to o;\n    n := n + 1;\n  }\n}\n";
 
 pub(crate) const UNIT: &[u8] =
-    b"const = 1\nload = 1\nstore = 1\nload_at = 1\nstore_at = 1\narith = 1\nmultiply = 1\ndivide = 1\njump = 1\nbranch = 1\nloop = 1\nreceive = 1\nsend = 1\nmark = 1\nend = 1\n";
+    b"const = 1\nload = 1\nstore = 1\nload_at = 1\nstore_at = 1\narith = 1\nmultiply = 1\ndivide = 1\njump = 1\n\
+    branch = 1\nloop = 1\nreceive = 1\nsend = 1\nmark = 1\nend = 1\n";
 
 /// The image of `ECHO`, as docs/formats.md lists it.
 const ECHO_IMAGE: [&[u8]; 26] = [
@@ -76,27 +78,18 @@ fn sink(alloc: Global, room: usize, fail: Option<PutFail>) -> Result<MemSink, Fa
     Ok(MemSink::new(alloc, room, fails).map_err(|_| "memory")?)
 }
 
-/// Runs the words over the files `p` and `t`.
-pub(crate) fn run(
-    alloc: Global,
-    words: &[&str],
-    (program, target): (&[u8], &[u8]),
-    fails: Fails,
-) -> Result<Left, Fail> {
+fn file(alloc: Global, name: &str, bytes: &[u8]) -> Result<MemFile, Fail> {
+    Ok(MemFile {
+        name: String::from_str(alloc, name)?,
+        bytes: Vec::from_slice(alloc, bytes)?,
+    })
+}
+
+fn call(alloc: Global, words: &[&str], files: Vec<MemFile>, fails: Fails) -> Result<Left, Fail> {
     let mut texts = Vec::new(alloc);
     for word in words {
         texts.push(String::from_str(alloc, *word)?)?;
     }
-    let files = vec![in alloc;
-        MemFile {
-            name: String::from_str(alloc, "p")?,
-            bytes: Vec::from_slice(alloc, program)?
-        },
-        MemFile {
-            name: String::from_str(alloc, "t")?,
-            bytes: Vec::from_slice(alloc, target)?
-        },
-    ]?;
     let mut failing = Vec::new(alloc);
     if let Some(load) = fails.load {
         failing.push(load)?;
@@ -106,6 +99,33 @@ pub(crate) fn run(
     let mut err = sink(alloc, fails.room, fails.err)?;
     let status = tcel(alloc, &texts, &mut shelf, &mut out, &mut err);
     Ok(Left { status, out, err })
+}
+
+/// Runs the words over the files `p` and `t`.
+pub(crate) fn run(
+    alloc: Global,
+    words: &[&str],
+    (program, target): (&[u8], &[u8]),
+    fails: Fails,
+) -> Result<Left, Fail> {
+    let files = vec![in alloc; file(alloc, "p", program)?, file(alloc, "t", target)?]?;
+    call(alloc, words, files, fails)
+}
+
+/// Runs the words over the files `p`, `t` of unit costs, `l` of links or of a trace's lines, and `s`.
+pub(crate) fn run_four(
+    alloc: Global,
+    words: &[&str],
+    (program, lines, script): (&[u8], &[u8], &[u8]),
+    fails: Fails,
+) -> Result<Left, Fail> {
+    let files = vec![in alloc;
+        file(alloc, "p", program)?,
+        file(alloc, "t", UNIT)?,
+        file(alloc, "l", lines)?,
+        file(alloc, "s", script)?,
+    ]?;
+    call(alloc, words, files, fails)
 }
 
 /// Compares what a call of `compile` leaves.
@@ -135,7 +155,8 @@ fn echo_image(alloc: Global) -> Result<Vec<u8>, AllocError> {
 /// `ECHO` with another period.
 fn echo_every(alloc: Global, period: &str) -> Result<String, AllocError> {
     format!(in alloc;
-        "task t priority 1 {{\n  input s;\n  output o;\n  state int n;\n  local int x;\n  every {period} {{\n    receive x from s;\n    send x to o;\n    n := n + 1;\n  }}\n}}\n"
+        "task t priority 1 {{\n  input s;\n  output o;\n  state int n;\n  local int x;\n  every {period} {{\n    \
+        receive x from s;\n    send x to o;\n    n := n + 1;\n  }}\n}}\n"
     )
 }
 

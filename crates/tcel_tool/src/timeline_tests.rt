@@ -8,7 +8,8 @@ const FULL: &str = "task a priority 2 { every 3 { } } task b priority 1 { every 
 
 /// A task of 4 of 8 ticks, and one whose event comes at 10 at the earliest.
 const HELD: &str =
-    "task hi priority 2 { output o; every 8 { send 1 to o; } } task lo priority 1 { output o; local int m; every 40 { m := 1; do start after 10 finish within 30 { send m to o; } } }";
+    "task hi priority 2 { output o; every 8 { send 1 to o; } } task lo priority 1 { output o; local int m; every 40 { \
+    m := 1; do start after 10 finish within 30 { send m to o; } } }";
 
 /// Two of 5 ticks.
 const IDLE: &str = "task t priority 1 { every 5 { } }";

@@ -2,7 +2,7 @@ ghost use Rattle.std.specs.Prelude.{◌≡◌, IfOk};
 
 use crate::expr::{Expr, ExprKind};
 use crate::stmt::{Stmt, StmtKind};
-use crate::task::{Decl, Program, Task};
+use crate::task::{Program, Task};
 use sqlite_items::{Boxed, Items};
 use std::alloc::Global;
 use tcel_num::NoMemory;

@@ -3,7 +3,7 @@ ghost use Rattle.tcel_num.specs.declared.at.At.{At};
 ghost use Rattle.tcel_num.specs.declared.op.Op.{Op};
 ghost use Rattle.tcel_tree.specs.Language.{binary, choice};
 ghost use Rattle.tcel_tree.specs.Plain.{plain_expr, plain_block, plain_program, plain_stmt, plain_task, branch_of};
-ghost use Rattle.tcel_tree.specs.Unplaced.{nowhere, unplaced_expr, unplaced_program, unplaced_task};
+ghost use Rattle.tcel_tree.specs.Unplaced.{unplaced_program, unplaced_task};
 ghost use Rattle.tcel_tree.specs.declared.expr.Expr.{Expr};
 ghost use Rattle.tcel_tree.specs.declared.expr.ExprKind.TheVariants.{Binary};
 ghost use Rattle.tcel_tree.specs.declared.stmt.Stmt.{Stmt};

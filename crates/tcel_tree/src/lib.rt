@@ -7,8 +7,6 @@ mod laws;
 mod placed;
 mod stmt;
 mod task;
-#[cfg(test)]
-mod tests;
 
 pub use copies::copy;
 pub use expr::{Expr, ExprKind};

@@ -1,4 +1,4 @@
-use Rattle.std.proofs.Common.{◌≡◌, ℕ, List, [], ◌∷◌, ◌++◌, replicate, ap, ◌∙◌, subst, sym, refl, arith, lit<}
+use Rattle.std.proofs.Common.{◌≡◌, List, [], ◌∷◌, ◌++◌, replicate, ap, ◌∙◌, subst, sym, refl, arith, lit<}
 use Rattle.std.proofs.lemmas.List.{replicate_more}
 use Rattle.tcel_demand.specs.Sound.{Fit, HasPoint}
 use Rattle.tcel_num.specs.Plan.{Plan, Point}

@@ -1,4 +1,4 @@
-use Rattle.std.proofs.Common.{length, ap, ◌∙◌, arith}
+use Rattle.std.proofs.Common.{arith}
 use Rattle.tcel_fewest.proofs.Searching.{none_found}
 use Rattle.tcel_fewest.proofs.search.fewest.Goals as goal
 

@@ -1,4 +1,4 @@
-use Rattle.std.proofs.Common.{◌≡◌, ◌^◌, ◌<◌, ◌+◌, length, sym, ap, ◌∙◌, subst, arith}
+use Rattle.std.proofs.Common.{◌≡◌, ◌^◌, ◌+◌, length, sym, ap, ◌∙◌, subst, arith}
 use Rattle.tcel_fewest.specs.Faults.{AreFaults, IsReached}
 use Rattle.tcel_fewest.specs.Sets.{size_of}
 use Rattle.tcel_fewest.proofs.Searching.{found_here, told_other, told_size, told_with}

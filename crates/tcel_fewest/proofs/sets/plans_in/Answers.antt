@@ -1,4 +1,4 @@
-use Rattle.std.proofs.Common.{◌≡◌, ◌+◌, ◌-◌, ◌∷◌, ◌++◌, [], if◌then◌else◌, length, get_or, drop, sym, ap, ◌∙◌, subst, arith}
+use Rattle.std.proofs.Common.{◌≡◌, ◌+◌, ◌-◌, ◌∷◌, ◌++◌, [], if◌then◌else◌, length, get_or, drop, ap, ◌∙◌, arith}
 use Rattle.tcel_fewest.specs.Sets.{has, plans_of}
 use Rattle.tcel_fewest.proofs.SetLemmas.{plans_end, plans_pushed}
 use Rattle.tcel_fewest.proofs.sets.plans_in.Goals as goal

@@ -6,7 +6,7 @@ use Rattle.tcel_tool.specs.CompileCommand.{IsText}
 use Rattle.tcel_tool.specs.SetChoice.{choice_stages}
 use Rattle.tcel_tool.specs.declared.command.Command.TheVariants.{Compile}
 use Rattle.tcel_tool.specs.declared.status.Status.TheVariants as statuses
-use Rattle.tcel_tool.proofs.Exits.{at_end_of, at_exit, at_write_fault, cut_off, ended_of, stops, taken}
+use Rattle.tcel_tool.proofs.Exits.{at_end_of, at_write_fault, cut_off, ended_of, stops, taken}
 use Rattle.tcel_tool.proofs.Stretches.{goes_behind, goes_stopped, stopped_at}
 use Rattle.tcel_tool.proofs.compile.compile.Goals as goal
 

@@ -1,8 +1,6 @@
-use Rattle.std.proofs.Common.{◌≡◌, ◌∙◌, ℕ, List, [], ◌∷◌, Ok, ap, inl, inr, refl, subst, sym}
+use Rattle.std.proofs.Common.{◌∙◌, ℕ, List, [], ◌∷◌, Ok, ap, inl, inr, refl, subst, sym}
 use Rattle.std.specs.Prelude.{codes, map, string_bytes}
-use Rattle.tcel_core.specs.Ports.{port_rows}
 use Rattle.tcel_judge.specs.declared.verdict.Verdict.TheVariants.{Yes}
-use Rattle.tcel_script.specs.Script.{script_of}
 use Rattle.tcel_trace.specs.TraceForm.{IsTrace}
 use Rattle.tcel_trace.specs.declared.trace_line.TraceLine.{TraceLine}
 use Rattle.tcel_tool.specs.Answer.{OrMemory, begun, status_of}
@@ -15,7 +13,7 @@ use Rattle.tcel_tool.specs.declared.status.Status.TheVariants as statuses
 use Rattle.tcel_tool.proofs.Exits.{at_end_of, at_exit, at_write_fault, cut_off, ended_of, stops, taken}
 use Rattle.tcel_tool.proofs.Forms.{judged_ticks_are_a_number}
 use Rattle.tcel_tool.proofs.Stretches.{goes_behind, goes_stopped, stopped_at}
-use Rattle.tcel_tool.proofs.JudgeStages.{ReadScript, behind_bytes, behind_lines, behind_script, behind_verdict, breached, faulty_script, loads_own, named, stops_own, yes_is}
+use Rattle.tcel_tool.proofs.JudgeStages.{behind_bytes, behind_lines, behind_script, behind_verdict, breached, faulty_script, loads_own, named, script_read, stops_own, yes_is}
 use Rattle.tcel_tool.proofs.judge.judge.Goals as goal
 
 pub number_up_to-requires : goal.number_up_to-requires
@@ -80,11 +78,9 @@ returns-in_err-bytes-clause-goes g c =
     let next = g.H.Shelf.seen c.load.new.shelf in
     let last = g.H.Shelf.seen c.load-2.new.shelf in
     let choice = plain_choice c.in_ok-chosen.chosen in
-    let read : ReadScript passed.0 choice shelf next c.in_ok-text.text.items c.in_ok-script.script = record {
-      for = passed.3;
-      loaded = loads_own passed.0 words 3 16777216 shelf next c.in_ok-text.text.items passed.1 c.in_ok-text.ensures.loaded;
-      streams_in = subst (λ t. script_of (port_rows choice.set) t ≡ Ok c.in_ok-script.script) c.deref.ensures.value c.in_ok-script.ensures.streams;
-    } in
+    let read =
+    script_read passed.0 choice words shelf next c.in_ok-text.text.items c.deref.result.now c.in_ok-script.script passed.3 passed.1 c.in_ok-text.ensures.loaded
+    c.deref.ensures.value c.in_ok-script.ensures.streams in
     let end = ended_of c.choose_for.new.task last out out exit.result in
     inr (
       c.in_ok-ticks.ensures.few,
@@ -102,11 +98,9 @@ returns-in_err-lines-clause-goes g c =
     let next = g.H.Shelf.seen c.load.new.shelf in
     let last = g.H.Shelf.seen c.load-2.new.shelf in
     let choice = plain_choice c.in_ok-chosen.chosen in
-    let read : ReadScript passed.0 choice shelf next c.in_ok-text.text.items c.in_ok-script.script = record {
-      for = passed.3;
-      loaded = loads_own passed.0 words 3 16777216 shelf next c.in_ok-text.text.items passed.1 c.in_ok-text.ensures.loaded;
-      streams_in = subst (λ t. script_of (port_rows choice.set) t ≡ Ok c.in_ok-script.script) c.deref.ensures.value c.in_ok-script.ensures.streams;
-    } in
+    let read =
+    script_read passed.0 choice words shelf next c.in_ok-text.text.items c.deref.result.now c.in_ok-script.script passed.3 passed.1 c.in_ok-text.ensures.loaded
+    c.deref.ensures.value c.in_ok-script.ensures.streams in
     let second = loads_own passed.0 words 4 16777216 next last c.in_ok-bytes.bytes.items passed.1 c.in_ok-bytes.ensures.loaded in
     let given = c.in_err-lines.field-0.0 in
     let cause = subst (λ t. OrMemory (RefusesTrace t) given) c.deref-2.ensures.value c.in_err-lines.ensures.refusal in
@@ -127,11 +121,9 @@ returns-in_err-accept-clause-goes g c =
     let next = g.H.Shelf.seen c.load.new.shelf in
     let last = g.H.Shelf.seen c.load-2.new.shelf in
     let choice = plain_choice c.in_ok-chosen.chosen in
-    let read : ReadScript passed.0 choice shelf next c.in_ok-text.text.items c.in_ok-script.script = record {
-      for = passed.3;
-      loaded = loads_own passed.0 words 3 16777216 shelf next c.in_ok-text.text.items passed.1 c.in_ok-text.ensures.loaded;
-      streams_in = subst (λ t. script_of (port_rows choice.set) t ≡ Ok c.in_ok-script.script) c.deref.ensures.value c.in_ok-script.ensures.streams;
-    } in
+    let read =
+    script_read passed.0 choice words shelf next c.in_ok-text.text.items c.deref.result.now c.in_ok-script.script passed.3 passed.1 c.in_ok-text.ensures.loaded
+    c.deref.ensures.value c.in_ok-script.ensures.streams in
     let second = loads_own passed.0 words 4 16777216 next last c.in_ok-bytes.bytes.items passed.1 c.in_ok-bytes.ensures.loaded in
     let lines_in = subst (λ t. IsTrace c.in_ok-lines.lines.items t) c.deref-2.ensures.value c.in_ok-lines.ensures.lines in
     let number = c.in_ok-ticks.ensures.value ∙ ap (λ (ws : List (List ℕ)). number_at ws 5) (sym passed.1) in
@@ -157,11 +149,9 @@ returns-in_err-put-clause-goes g c =
     let next = g.H.Shelf.seen c.load.new.shelf in
     let last = g.H.Shelf.seen c.load-2.new.shelf in
     let choice = plain_choice c.in_ok-chosen.chosen in
-    let read : ReadScript passed.0 choice shelf next c.in_ok-text.text.items c.in_ok-script.script = record {
-      for = passed.3;
-      loaded = loads_own passed.0 words 3 16777216 shelf next c.in_ok-text.text.items passed.1 c.in_ok-text.ensures.loaded;
-      streams_in = subst (λ t. script_of (port_rows choice.set) t ≡ Ok c.in_ok-script.script) c.deref.ensures.value c.in_ok-script.ensures.streams;
-    } in
+    let read =
+    script_read passed.0 choice words shelf next c.in_ok-text.text.items c.deref.result.now c.in_ok-script.script passed.3 passed.1 c.in_ok-text.ensures.loaded
+    c.deref.ensures.value c.in_ok-script.ensures.streams in
     let second = loads_own passed.0 words 4 16777216 next last c.in_ok-bytes.bytes.items passed.1 c.in_ok-bytes.ensures.loaded in
     let lines_in = subst (λ t. IsTrace c.in_ok-lines.lines.items t) c.deref-2.ensures.value c.in_ok-lines.ensures.lines in
     let number = c.in_ok-ticks.ensures.value ∙ ap (λ (ws : List (List ℕ)). number_at ws 5) (sym passed.1) in
@@ -184,11 +174,9 @@ returns-clause-goes g c =
     let next = g.H.Shelf.seen c.load.new.shelf in
     let last = g.H.Shelf.seen c.load-2.new.shelf in
     let choice = plain_choice c.in_ok-chosen.chosen in
-    let read : ReadScript passed.0 choice shelf next c.in_ok-text.text.items c.in_ok-script.script = record {
-      for = passed.3;
-      loaded = loads_own passed.0 words 3 16777216 shelf next c.in_ok-text.text.items passed.1 c.in_ok-text.ensures.loaded;
-      streams_in = subst (λ t. script_of (port_rows choice.set) t ≡ Ok c.in_ok-script.script) c.deref.ensures.value c.in_ok-script.ensures.streams;
-    } in
+    let read =
+    script_read passed.0 choice words shelf next c.in_ok-text.text.items c.deref.result.now c.in_ok-script.script passed.3 passed.1 c.in_ok-text.ensures.loaded
+    c.deref.ensures.value c.in_ok-script.ensures.streams in
     let second = loads_own passed.0 words 4 16777216 next last c.in_ok-bytes.bytes.items passed.1 c.in_ok-bytes.ensures.loaded in
     let lines_in = subst (λ t. IsTrace c.in_ok-lines.lines.items t) c.deref-2.ensures.value c.in_ok-lines.ensures.lines in
     let number = c.in_ok-ticks.ensures.value ∙ ap (λ (ws : List (List ℕ)). number_at ws 5) (sym passed.1) in

@@ -1,4 +1,4 @@
-use Rattle.std.proofs.Common.{◌≡◌, inl, inr, refl, subst}
+use Rattle.std.proofs.Common.{inl, inr, refl, subst}
 use Rattle.std.specs.Prelude.{map, string_bytes}
 use Rattle.tcel_core.specs.Plain.{plain_set}
 use Rattle.tcel_tool.specs.Answer.{OrMemory}

@@ -1,4 +1,4 @@
-use Rattle.std.proofs.Common.{◌≡◌, ◌<◌, List, length, get_or, ap, subst, sym, ◌∙◌, arith}
+use Rattle.std.proofs.Common.{List, length, get_or, ap, ◌∙◌, arith}
 use Rattle.tcel_core.specs.declared.set.CoreTask.{CoreTask}
 use Rattle.tcel_tool.proofs.MeanFrames.{sound_at}
 use Rattle.tcel_tool.proofs.mean_text.mean_text.Goals as goal

@@ -1,4 +1,4 @@
-use Rattle.std.proofs.Common.{refl, subst, sym}
+use Rattle.std.proofs.Common.{refl, subst}
 use Rattle.std.specs.Prelude.{map, string_bytes}
 use Rattle.tcel_io.specs.InTurn.{ArePut}
 use Rattle.tcel_tool.specs.Answer.{begun}

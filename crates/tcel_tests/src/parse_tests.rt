@@ -1,9 +1,9 @@
 ghost use Rattle.std.specs.Prelude.{◌≤◌, length};
 
-use crate::{Deep, ParseFail, parse};
 use std::alloc::Global;
 use std::test::Fail;
 use tcel_num::At;
+use tcel_parse::{Deep, ParseFail, parse};
 use tcel_token::tokens;
 
 /// The fault of a text that has tokens, if it has one.

@@ -1,7 +1,9 @@
-use super::*;
 use sqlite_items::Items;
 use std::alloc::Global;
 use std::test::Fail;
+use tcel_image::{
+    Image, ImageFail, ImageState, ImageTask, Instr, Line, StateKind, decode, encode, in_range,
+};
 use tcel_num::{Name, Op};
 use tcel_target::{CostKey, Costs};
 

@@ -1,8 +1,10 @@
-use crate::{Decl, DeclKind, Expr, ExprKind, Placed, Program, Stmt, StmtKind, Task, Window, copy};
 use sqlite_items::{Boxed, Items};
 use std::alloc::Global;
 use std::test::Fail;
 use tcel_num::{At, Name, NoMemory, Op};
+use tcel_tree::{
+    Decl, DeclKind, Expr, ExprKind, Placed, Program, Stmt, StmtKind, Task, Window, copy,
+};
 
 fn at(column: u32) -> At {
     At { line: 1, column }

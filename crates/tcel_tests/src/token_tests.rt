@@ -1,7 +1,7 @@
-use crate::LexFail::{self, BadByte, BadNumber, NameTooLong};
-use crate::{Keyword, Sign, TokenKind, tokens};
 use std::test::Fail;
 use tcel_num::At;
+use tcel_token::LexFail::{self, BadByte, BadNumber, NameTooLong};
+use tcel_token::{Keyword, Sign, TokenKind, tokens};
 
 #[test]
 fn each_reserved_word_is_a_token(rt: HostRuntime) -> Result<(), Fail> {

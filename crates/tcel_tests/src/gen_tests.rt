@@ -1,14 +1,14 @@
-ghost use Rattle.std.specs.Prelude.{◌≡◌, ◌≤◌};
+ghost use Rattle.std.specs.Prelude.{◌≤◌};
 ghost use Rattle.tcel_core.specs.Parts.{AreOwnParts, plain_parts};
 ghost use Rattle.tcel_core.specs.Plain.{plain_task};
 ghost use Rattle.tcel_core.specs.Sound.{IsSoundTask};
 
-use crate::generate;
 use sqlite_items::Items;
 use std::alloc::Global;
 use std::test::Fail;
 use tcel_core::{CoreTask, ItemSet, Parts, Set};
 use tcel_flow::{flow_of, worked_task};
+use tcel_gen::generate;
 use tcel_image::Instr;
 use tcel_num::{NoMemory, Op};
 use tcel_rename::parts;

@@ -1,7 +1,7 @@
-use crate::{CheckFail, CheckKind, LimitKind, check};
 use sqlite_items::{Boxed, Items};
 use std::alloc::Global;
 use std::test::Fail;
+use tcel_check::{CheckFail, CheckKind, LimitKind, check};
 use tcel_num::{At, Name, NoMemory, Op};
 use tcel_tree::{Decl, DeclKind, Expr, ExprKind, Placed, Program, Stmt, StmtKind, Task, Window};
 

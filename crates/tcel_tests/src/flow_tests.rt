@@ -1,8 +1,8 @@
-use crate::{Step, Use, flow_of, reaches, stands_around, worked_task};
 use sqlite_items::{Boxed, Items};
 use std::alloc::Global;
 use std::test::Fail;
 use tcel_core::{Body, CoreExpr, CoreStmt, CoreTask, Item};
+use tcel_flow::{Step, Use, flow_of, reaches, stands_around, worked_task};
 use tcel_num::{Name, NoMemory, Op};
 
 fn name(bytes: &[u8]) -> Result<Name, NoMemory> {

@@ -1,6 +1,6 @@
-use super::*;
 use std::test::Fail;
 use tcel_image::{decode, in_range};
+use tcel_machine::{Machine, What};
 use tcel_script::read_script;
 use tcel_verify::verify;
 

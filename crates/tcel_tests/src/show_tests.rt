@@ -1,8 +1,8 @@
-use crate::show;
 use sqlite_items::{Boxed, Items};
 use std::alloc::Global;
 use std::test::Fail;
 use tcel_num::{At, Name, NoMemory, Op};
+use tcel_show::show;
 use tcel_tree::{Decl, DeclKind, Expr, ExprKind, Placed, Program, Stmt, StmtKind, Task};
 
 const AT: At = At { line: 1, column: 1 };
@@ -73,7 +73,8 @@ fn a_program_is_written_on_its_lines(rt: HostRuntime) -> Result<(), Fail> {
     let program = program(rt.alloc())?;
     let text = show(rt.alloc(), &program)?;
     let wanted =
-        b"task t priority 1 {\n  state int x = -9223372036854775808;\n  every 1000000000 {\n    if true {\n      x := 1 - (2 - 3);\n    } else {\n    }\n  }\n}\n";
+        b"task t priority 1 {\n  state int x = -9223372036854775808;\n  every 1000000000 {\n    if true {\n      \
+        x := 1 - (2 - 3);\n    } else {\n    }\n  }\n}\n";
     assert_eq!(rt; text.as_slice(), wanted.as_slice());
     Ok(())
 }
