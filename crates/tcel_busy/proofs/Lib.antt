@@ -3,7 +3,6 @@ pub mod BusyPeriod
 pub mod Gaps
 pub mod Laws
 pub mod Rooms
-pub mod Rows
 pub mod StretchFacts
 pub mod StretchTests
 pub mod Tasks

@@ -13,6 +13,3 @@ pub use examples::busy_example;
 pub use lateness::late;
 pub use law::busy_period_law;
 pub use worst_case::{worst, worst_of_task};
-
-#[cfg(test)]
-mod tests;

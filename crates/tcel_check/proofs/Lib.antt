@@ -22,3 +22,5 @@ pub mod InScope
 pub mod KeyLists
 pub mod RoomLemmas
 pub mod TaskNames
+pub mod FewOperators
+pub mod Checkable

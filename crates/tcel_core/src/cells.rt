@@ -77,17 +77,3 @@ fn push_zeros(count: usize, words: &mut Vec<i64>) -> Result<(), NoMemory>
     }
     Ok(())
 }
-
-#[cfg(test)]
-mod tests {
-    use super::Cells;
-    use std::test::Fail;
-
-    #[test]
-    fn words_are_read(rt: HostRuntime) -> Result<(), Fail> {
-        let words = vec![in rt.alloc(); 7, -8]?;
-        let cells = Cells { words };
-        assert_eq!(rt; cells.word(1), -8);
-        Ok(())
-    }
-}

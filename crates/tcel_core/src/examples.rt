@@ -1,100 +1,12 @@
-ghost use Rattle.std.specs.Prelude.{◌≡◌, [], ◌∷◌, ◌++◌, pos, negsuc, IfOk, replicate};
-ghost use Rattle.tcel_core.specs.Examples.{MeetsBoth, MeetsCounter, coded, often_frame, often_front, plainly, shown_by, waiting_front, alarm, alarm_body, array_body, counted, counter, counter_body, counter_streams, counter_vars, edge_body, edge_vars, entry, for_body, loop_vars, memory, nested_body, one, passed_on, plus, primed_vars, sent, shared_first_body, taken, while_body};
-ghost use Rattle.tcel_core.specs.Language.{next, done, item, choice, send, assign, number, variable, binary};
+ghost use Rattle.std.specs.Prelude.{◌≡◌, [], ◌∷◌, ◌++◌, pos, negsuc, replicate};
+ghost use Rattle.tcel_core.specs.Examples.{MeetsBoth, MeetsCounter, coded, often_frame, often_front, plainly, shown_by, waiting_front, alarm, array_body, counted, counter, counter_body, counter_streams, counter_vars, edge_body, edge_vars, entry, for_body, loop_vars, memory, nested_body, passed_on, primed_vars, sent, shared_first_body, taken, while_body};
+ghost use Rattle.tcel_core.specs.Language.{number, variable};
 ghost use Rattle.tcel_core.specs.Meaning.{exec};
 ghost use Rattle.tcel_core.specs.Outcome.{event, quiet};
 ghost use Rattle.tcel_core.specs.Frames.{declared_state, frame_of, shown, start_cells};
-ghost use Rattle.tcel_core.specs.Plain.{plain_expr, plain_stmt, plain_body, plain_task};
+ghost use Rattle.tcel_core.specs.Plain.{plain_task};
 ghost use Rattle.tcel_num.specs.Entry.{first, end};
 ghost use Rattle.tcel_core.specs.declared.event.EventKind.TheVariants.{Receive, Send};
-
-use crate::body::{Body, CoreStmt, Item};
-use crate::expr::CoreExpr;
-use sqlite_items::{Boxed, Items};
-use std::alloc::Global;
-use tcel_num::{NoMemory, Op};
-
-/// A body of one statement.
-fn single(alloc: Global, statement: CoreStmt) -> Result<Body, NoMemory>
-    ensures { IfOk result (λ b. plain_body b ≡ next (plain_stmt statement) done) }
-{
-    let mut list = Items::new(alloc);
-    list.push(statement)?;
-    Ok(Body { list })
-}
-
-/// A body of two statements.
-fn pair(alloc: Global, first: CoreStmt, second: CoreStmt) -> Result<Body, NoMemory>
-    ensures { IfOk result (λ b. plain_body b ≡ next (plain_stmt first) (next (plain_stmt second) done)) }
-{
-    let mut list = Items::new(alloc);
-    list.push(first)?;
-    list.push(second)?;
-    Ok(Body { list })
-}
-
-/// `n := n + 1`, where n is variable 0.
-fn count(alloc: Global) -> Result<Item, NoMemory>
-    ensures { IfOk result (λ i. plain_stmt (CoreStmt.Item 1 i) ≡ item 1 (assign 0 (plus 0 one))) }
-{
-    let old = Boxed::new(alloc, CoreExpr::Var(0))?;
-    let one = Boxed::new(alloc, CoreExpr::Number(1))?;
-    Ok(Item::Assign(0, CoreExpr::Binary(Op::Add, old, one)))
-}
-
-/// `x > 0`, where x is variable 1.
-fn is_positive(alloc: Global) -> Result<CoreExpr, NoMemory>
-    ensures { IfOk result (λ e. plain_expr e ≡ binary Op.Greater (variable 1) (number (pos 0))) }
-{
-    let left = Boxed::new(alloc, CoreExpr::Var(1))?;
-    let right = Boxed::new(alloc, CoreExpr::Number(0))?;
-    Ok(CoreExpr::Binary(Op::Greater, left, right))
-}
-
-/// `if x > 0 { n := n + 1; } else { send n to o; }`
-fn count_or_send(alloc: Global) -> Result<CoreStmt, NoMemory>
-    ensures { IfOk result (λ s. plain_stmt s ≡ choice 0 (binary Op.Greater (variable 1) (number (pos 0)))
-        (next (item 1 (assign 0 (plus 0 one))) done) (next (item 2 (send (variable 0) 0)) done)) }
-{
-    let test = is_positive(alloc)?;
-    let counting = CoreStmt::Item {
-        id: 1,
-        item: count(alloc)?,
-    };
-    let sending = CoreStmt::Item {
-        id: 2,
-        item: Item::Send(CoreExpr::Var(0), 0),
-    };
-    Ok(CoreStmt::If {
-        id: 0,
-        test,
-        yes: single(alloc, counting)?,
-        no: single(alloc, sending)?,
-    })
-}
-
-/// A body of the examples as code has it: `receive x from s;` and then, in a block that starts before 15,
-/// `if x > 0 { n := n + 1; } else { send n to o; } send 5 to o;`.
-pub(crate) fn example_body(alloc: Global) -> Result<Body, NoMemory>
-    ensures { IfOk result (λ b. plain_body b ≡ alarm_body) }
-{
-    let receiving = CoreStmt::Item {
-        id: 0,
-        item: Item::Receive(1, 0),
-    };
-    let sending = CoreStmt::Item {
-        id: 3,
-        item: Item::Send(CoreExpr::Number(5), 0),
-    };
-    let timed = CoreStmt::Do {
-        id: 1,
-        after: None,
-        before: Some(15),
-        within: None,
-        body: pair(alloc, count_or_send(alloc)?, sending)?,
-    };
-    pair(alloc, receiving, timed)
-}
 
 /// What bodies do, worked out: events in order, arithmetic at its edges, loops, arrays and copies.
 pub fn meaning_examples()

@@ -19,8 +19,6 @@ mod set;
 mod sizes;
 mod slicing_examples;
 mod soundness;
-#[cfg(test)]
-mod tests;
 mod uses;
 mod value;
 mod var;

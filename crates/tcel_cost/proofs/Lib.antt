@@ -7,7 +7,6 @@ pub mod LoopExamples
 pub mod WindowedPlan
 pub mod FormPlans
 pub mod WorkedPlans
-mod TestTasks
 pub mod UniquePlans
 pub mod CostTotals
 pub mod PointCosts

@@ -16,6 +16,3 @@ pub use examples::{cost_examples, plan_examples};
 pub use laws::{plans_are_unique, walks_are_steady};
 pub use numbers::Cost;
 pub use plans::{CostFail, plan};
-
-#[cfg(test)]
-mod tests;

@@ -15,6 +15,3 @@ pub use late::late_plain;
 pub use plan::{Late, Point, PointName, TaskPlan, Worst};
 pub use total::demand_over;
 pub use worst::worst_plain;
-
-#[cfg(test)]
-mod tests;

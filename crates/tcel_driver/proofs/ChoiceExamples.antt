@@ -16,10 +16,9 @@ use Rattle.tcel_cost.specs.Forms.{form_of}
 use Rattle.tcel_cost.specs.Plans.{IsPlan}
 use Rattle.tcel_cost.specs.Walks.{IsTotal, StmtWalks, Walks}
 use Rattle.tcel_driver.specs.Choice.{AreInTime, Fits, IsChosen}
-use Rattle.tcel_driver.specs.Examples.{branching_parts, branching_sliced, branching_task, branching_whole}
+use Rattle.tcel_driver.specs.Examples.{branching, branching_parts, branching_sliced, branching_task, branching_whole}
 use Rattle.tcel_driver.specs.Forms.{AreForms, IsCosted}
 use Rattle.tcel_driver.specs.Refusals.{IsOverloaded, IsTooDear}
-use Rattle.tcel_driver.specs.Rows.{branching}
 use Rattle.tcel_driver.proofs.Chosen.{has_time}
 
 -- ---- parts

@@ -8,6 +8,5 @@ pub mod Lists
 pub mod OneAnswer
 pub mod OneForms
 pub mod SamePeriods
-pub mod SoundRows
 pub mod Refusing
 pub mod Results

@@ -1,11 +1,15 @@
 -- Worked examples: a task that has time only sliced, and one that never has.
 use Rattle.std.specs.Prelude.{ℕ, [], ◌∷◌, codes}
 use Rattle.tcel_num.specs.Plan.{Plan, frame}
-use Rattle.tcel_core.specs.Language.{Task, done}
+use Rattle.tcel_core.specs.Examples.{one}
+use Rattle.tcel_core.specs.Language.{Block, Task, choice, done, next}
 use Rattle.tcel_core.specs.Parts.{TaskParts}
-use Rattle.tcel_driver.specs.Rows.{branching}
 
--- if true { } so often
+-- if true { }
+abbrev pub branching : Block
+branching = next (choice 0 one done done) done
+
+-- it so often
 abbrev pub branching_task : ℕ → Task
 branching_task period =
     record {

@@ -3,5 +3,4 @@ pub mod Examples
 pub mod Forms
 pub mod Laws
 pub mod Refusals
-pub mod Rows
 pub mod Steps

@@ -15,6 +15,3 @@ pub use examples::choice_examples;
 pub use forms::{Forms, forms_of};
 pub use laws::one_answer;
 pub use refused::Refused;
-
-#[cfg(test)]
-mod tests;

@@ -11,6 +11,3 @@ pub use examples::{order_examples, plan_examples, set_examples};
 pub use fault::{Fewest, SetFault, Why};
 pub use search::fewest;
 pub use sets::has;
-
-#[cfg(test)]
-mod tests;

@@ -8,7 +8,7 @@ mod shape;
 mod step;
 
 pub use around::stands_around;
-pub use examples::{shape_example, worked_task};
+pub use examples::shape_example;
 pub use reaching::{Use, reaches};
 pub use shape::{Flow, flow_of};
 pub use step::Step;

@@ -19,6 +19,3 @@ pub use mem_shelf::{MemFile, MemShelf};
 pub use mem_sink::{MemSink, PutFail};
 pub use shelf::{LoadFail, Shelf};
 pub use sink::{Sink, SinkFault};
-
-#[cfg(test)]
-mod tests;

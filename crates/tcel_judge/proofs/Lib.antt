@@ -16,6 +16,5 @@ pub mod RightLines
 pub mod Runs
 pub mod Searches
 pub mod Sets
-pub mod SoundSets
 pub mod StateTexts
 pub mod TakenLines

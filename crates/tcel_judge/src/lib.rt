@@ -15,6 +15,3 @@ pub use examples::{line_examples, missing_examples};
 pub use judging::judge;
 pub use laws::verdict_laws;
 pub use verdict::{Breach, Due, Verdict};
-
-#[cfg(test)]
-mod tests;

@@ -15,7 +15,6 @@ pub mod Releases
 pub mod Replacing
 pub mod Replay
 pub mod Samples
-pub mod SoundExamples
 pub mod Standing
 pub mod Steps
 pub mod Words

@@ -4,7 +4,6 @@ use Rattle.tcel_core.specs.declared.event.Event.{Event}
 use Rattle.tcel_core.specs.declared.event.EventKind.{EventKind}
 use Rattle.tcel_core.specs.Examples.{counter_vars, one, plus}
 use Rattle.tcel_core.specs.Language.{Block, Expr, Task, assign, binary, choice, done, for_loop, item, next, number, receive, send, variable}
-use Rattle.tcel_core.specs.Sound.{HasSoundBody}
 use Rattle.tcel_num.specs.declared.op.Op.TheVariants.{Equal}
 use Rattle.tcel_num.specs.Entry.{Entry, What, receive as receive_of, send as send_of}
 use Rattle.tcel_link.specs.declared.link.Link.{Link}
@@ -101,10 +100,6 @@ moved kind port value deadline = record { port = port; kind = kind; value = valu
 -- lines, each with a line feed
 abbrev pub text : List (List ℕ) → List ℕ
 text lines = flat_map (λ line. line ++ 10 ∷ []) lines
-
--- a checked task can have this body
-abbrev pub IsSoundOver : Block → Type 0
-IsSoundOver body = HasSoundBody (task_over (codes "p") 1 1 1 body)
 
 -- ---- a trace of p, which counts, and c, which passes on
 

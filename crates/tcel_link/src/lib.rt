@@ -18,6 +18,3 @@ pub use laws::{linked_laws, linked_traces_meet};
 pub use link::{Link, Links};
 pub use read::read_links;
 pub use resolving::resolve;
-
-#[cfg(test)]
-mod tests;

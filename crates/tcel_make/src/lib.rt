@@ -4,8 +4,6 @@
 mod examples;
 mod program;
 mod script;
-#[cfg(test)]
-mod tests;
 mod writing;
 
 pub use examples::text_examples;

@@ -18,6 +18,3 @@ pub use multiples::{ceil_div, lcm_within};
 pub use name::{Name, may_follow, may_start};
 pub use op::Op;
 pub use port_row::PortRow;
-
-#[cfg(test)]
-mod tests;

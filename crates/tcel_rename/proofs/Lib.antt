@@ -7,5 +7,4 @@ pub mod Growing
 pub mod NumberLists
 pub mod NumbersFound
 pub mod RenamedAll
-pub mod Rows
 pub mod SetsFound

@@ -8,8 +8,6 @@ mod numbers;
 mod renaming;
 mod sets;
 mod splits;
-#[cfg(test)]
-mod tests;
 mod two_parts;
 
 pub use two_parts::{PartsFail, parts};

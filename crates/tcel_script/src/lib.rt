@@ -14,6 +14,3 @@ pub use fail::ScriptFail;
 pub use line::{is_comment, next_line, next_word};
 pub use read::read_script;
 pub use script::Script;
-
-#[cfg(test)]
-mod tests;

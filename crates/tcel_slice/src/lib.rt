@@ -2,7 +2,5 @@
 #![tactic(auto)]
 
 mod keeping;
-#[cfg(test)]
-mod tests;
 
 pub use keeping::kept;

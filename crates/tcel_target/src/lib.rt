@@ -14,6 +14,3 @@ pub use fail::TargetFail;
 pub use key_text::KeyText;
 pub use laws::target_laws;
 pub use read::read_target;
-
-#[cfg(test)]
-mod tests;

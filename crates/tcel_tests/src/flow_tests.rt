@@ -1,77 +1,6 @@
-use sqlite_items::{Boxed, Items};
-use std::alloc::Global;
+use crate::programs::{task_in, worked_task};
 use std::test::Fail;
-use tcel_core::{Body, CoreExpr, CoreStmt, CoreTask, Item};
-use tcel_flow::{Step, Use, flow_of, reaches, stands_around, worked_task};
-use tcel_num::{Name, NoMemory, Op};
-
-fn name(bytes: &[u8]) -> Result<Name, NoMemory> {
-    Name::new(bytes).ok_or(NoMemory)
-}
-
-fn body(alloc: Global, first: CoreStmt, second: CoreStmt) -> Result<Body, NoMemory> {
-    let mut list = Items::new(alloc);
-    list.push(first)?;
-    list.push(second)?;
-    Ok(Body { list })
-}
-
-// receive x from s; do { if x > 0 { y := x; send y to o; } else { y := 5; n := n + y; } } with n 0, y 1 and x 2
-fn choosing(alloc: Global) -> Result<Body, NoMemory> {
-    let test = CoreExpr::Binary(
-        Op::Greater,
-        Boxed::new(alloc, CoreExpr::Var(2))?,
-        Boxed::new(alloc, CoreExpr::Number(0))?,
-    );
-    let sum = CoreExpr::Binary(
-        Op::Add,
-        Boxed::new(alloc, CoreExpr::Var(0))?,
-        Boxed::new(alloc, CoreExpr::Var(1))?,
-    );
-    let yes = body(
-        alloc,
-        CoreStmt::Item {
-            id: 1,
-            item: Item::Assign(1, CoreExpr::Var(2)),
-        },
-        CoreStmt::Item {
-            id: 2,
-            item: Item::Send(CoreExpr::Var(1), 0),
-        },
-    )?;
-    let no = body(
-        alloc,
-        CoreStmt::Item {
-            id: 3,
-            item: Item::Assign(1, CoreExpr::Number(5)),
-        },
-        CoreStmt::Item {
-            id: 4,
-            item: Item::Assign(0, sum),
-        },
-    )?;
-    let mut list = Items::new(alloc);
-    list.push(CoreStmt::If {
-        id: 0,
-        test,
-        yes,
-        no,
-    })?;
-    body(
-        alloc,
-        CoreStmt::Item {
-            id: 0,
-            item: Item::Receive(2, 0),
-        },
-        CoreStmt::Do {
-            id: 1,
-            after: None,
-            before: None,
-            within: Some(9),
-            body: Body { list },
-        },
-    )
-}
+use tcel_flow::{Step, Use, flow_of, reaches, stands_around};
 
 // Its letter, its number, the rows' first words and whether an event stands in it.
 fn seen(step: Step) -> (u8, u32, u64, u64, bool) {
@@ -91,16 +20,11 @@ fn seen(step: Step) -> (u8, u32, u64, u64, bool) {
 #[test]
 fn the_shape_of_a_body(rt: HostRuntime) -> Result<(), Fail> {
     let alloc = rt.alloc();
-    let task = CoreTask {
-        name: name(b"t")?,
-        priority: 1,
-        period: 30,
-        finish: 30,
-        vars: Items::new(alloc),
-        inputs: Items::new(alloc),
-        outputs: Items::new(alloc),
-        body: choosing(alloc)?,
-    };
+    let head: &[u8] =
+        b"task t priority 1 { input s; output o; state int n; local int y; local int x; ";
+    let choose: &[u8] =
+        b"receive x from s; do finish within 9 { if x > 0 { y := x; send y to o; } else { y := 5; n := n + y; } }";
+    let task = task_in(alloc, head, (b"every 30", choose))?;
     let flow = flow_of(alloc, &task)?;
     let steps = [
         (b'i', 0, 0, 4, true),

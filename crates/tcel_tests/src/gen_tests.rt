@@ -1,18 +1,16 @@
 ghost use Rattle.std.specs.Prelude.{◌≤◌};
-ghost use Rattle.tcel_core.specs.Parts.{AreOwnParts, plain_parts};
 ghost use Rattle.tcel_core.specs.Plain.{plain_task};
 ghost use Rattle.tcel_core.specs.Sound.{IsSoundTask};
 
+use crate::programs::{own_parts, worked_task};
 use sqlite_items::Items;
 use std::alloc::Global;
+use std::process::Abort;
 use std::test::Fail;
-use tcel_core::{CoreTask, ItemSet, Parts, Set};
-use tcel_flow::{flow_of, worked_task};
+use tcel_core::{CoreTask, Set};
 use tcel_gen::generate;
 use tcel_image::Instr;
 use tcel_num::{NoMemory, Op};
-use tcel_rename::parts;
-use tcel_slice::kept;
 use tcel_target::Costs;
 use tcel_verify::Ready;
 
@@ -77,11 +75,11 @@ const SLICED: [(u16, Instr); 28] = [
 ];
 
 // The image of a set of this task alone.
-fn image_of(alloc: Global, task: CoreTask, cut: Parts, sliced: usize) -> Result<Ready, NoMemory>
+fn image_of(alloc: Global, task: CoreTask, sliced: usize) -> Result<Ready, NoMemory>
     requires sound { IsSoundTask (plain_task task) }
-    requires own { AreOwnParts (plain_task task) (plain_parts cut) }
     requires most { sliced ≤ 1 }
 {
+    let cut = own_parts(alloc, &task)?;
     let mut tasks = Items::new(alloc);
     tasks.push(task)?;
     let set = Set { tasks };
@@ -91,32 +89,27 @@ fn image_of(alloc: Global, task: CoreTask, cut: Parts, sliced: usize) -> Result<
     generate(alloc, &set, cuts.as_slice(), sliced, &costs)
 }
 
+// Compares the only task of an image: its code and its cells, and whether it is sliced.
+fn compare(rt: &impl Abort, ready: &Ready, code: &[(u16, Instr)], cells: u32, sliced: bool) {
+    for task in ready.image().tasks.as_slice() {
+        assert_eq!(rt; task.code.len(), code.len());
+        for (line, wanted) in task.code.as_slice().iter().zip(code) {
+            assert_eq!(rt; (line.depth, line.instr), *wanted);
+        }
+        assert_eq!(rt;
+            (task.cells, task.sliced, task.states.len()),
+            (cells, sliced, 2)
+        );
+    }
+    assert_eq!(rt; ready.image().tasks.len(), 1);
+}
+
 #[test]
 fn the_worked_task(rt: HostRuntime) -> Result<(), Fail> {
     let alloc = rt.alloc();
-    for sliced in 0..2 {
-        let task = worked_task(alloc)?;
-        let flow = flow_of(alloc, &task)?;
-        let set: ItemSet = kept(alloc, &task, &flow)?;
-        let Ok(cut) = parts(alloc, &task, &set) else {
-            return Err(Fail::new("parts"));
-        };
-        let ready = image_of(alloc, task, cut, sliced)?;
-        let Some(made) = ready.image().tasks.get(0) else {
-            return Err(Fail::new("a task"));
-        };
-        let (code, cells) = if sliced == 0 {
-            (WHOLE.as_slice(), 3)
-        } else {
-            (SLICED.as_slice(), 6)
-        };
-        assert_eq!(rt; made.code.len(), code.len());
-        for (line, wanted) in made.code.as_slice().iter().zip(code) {
-            assert_eq!(rt; (line.depth, line.instr), *wanted);
-        }
-        assert_eq!(rt; made.cells, cells);
-        assert_eq!(rt; made.sliced, sliced == 1);
-        assert_eq!(rt; made.states.len(), 2);
-    }
+    let whole = image_of(alloc, worked_task(alloc)?, 0)?;
+    compare(&rt, &whole, &WHOLE, 3, false);
+    let sliced = image_of(alloc, worked_task(alloc)?, 1)?;
+    compare(&rt, &sliced, &SLICED, 6, true);
     Ok(())
 }

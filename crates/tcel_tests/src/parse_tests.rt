@@ -1,5 +1,6 @@
 ghost use Rattle.std.specs.Prelude.{◌≤◌, length};
 
+use crate::programs::joined;
 use std::alloc::Global;
 use std::test::Fail;
 use tcel_num::At;
@@ -15,14 +16,6 @@ fn fault(alloc: Global, text: &[u8]) -> Result<Option<ParseFail>, Fail>
         Ok(_program) => Ok(None),
         Err(fail) => Ok(Some(fail)),
     }
-}
-
-/// A text between two others.
-fn between(alloc: Global, before: &[u8], text: &[u8], after: &[u8]) -> Result<Vec<u8>, Fail> {
-    let mut whole = Vec::from_slice(alloc, before)?;
-    whole.extend_from_slice(text)?;
-    whole.extend_from_slice(after)?;
-    Ok(whole)
 }
 
 fn unexpected(column: u32) -> Option<ParseFail> {
@@ -48,11 +41,13 @@ fn each_form_of_a_declaration_is_read(rt: HostRuntime) -> Result<(), Fail> {
         b"state bool b = false;",
     ];
     for form in forms {
-        let text = between(
+        let text = joined(
             rt.alloc(),
-            b"task t priority 1 { ",
-            form,
-            b" every 9 finish within 5 { } }",
+            &[
+                b"task t priority 1 { ",
+                form,
+                b" every 9 finish within 5 { } }",
+            ],
         )?;
         assert!(rt; text.len() <= 1_048_576);
         assert!(rt; fault(rt.alloc(), &text)? == None);
@@ -83,7 +78,10 @@ fn each_form_of_a_statement_is_read(rt: HostRuntime) -> Result<(), Fail> {
         b"x := true and not b or false == (d + 1 * -a[i] / 2 % 3 - 4 < 5);",
     ];
     for form in forms {
-        let text = between(rt.alloc(), b"task t priority 1 { every 9 { ", form, b" } }")?;
+        let text = joined(
+            rt.alloc(),
+            &[b"task t priority 1 { every 9 { ", form, b" } }"],
+        )?;
         assert!(rt; text.len() <= 1_048_576);
         assert!(rt; fault(rt.alloc(), &text)? == None);
     }
@@ -102,7 +100,10 @@ fn faults_of_declarations_have_their_places(rt: HostRuntime) -> Result<(), Fail>
         (b"local x;", 27),
     ];
     for (form, column) in cases {
-        let text = between(rt.alloc(), b"task t priority 1 { ", form, b" every 9 { } }")?;
+        let text = joined(
+            rt.alloc(),
+            &[b"task t priority 1 { ", form, b" every 9 { } }"],
+        )?;
         assert!(rt; text.len() <= 1_048_576);
         assert!(rt; fault(rt.alloc(), &text)? == unexpected(column));
     }
@@ -129,7 +130,10 @@ fn faults_of_statements_have_their_places(rt: HostRuntime) -> Result<(), Fail> {
         (b"do start after 1 start after 2 { }", 54),
     ];
     for (form, column) in cases {
-        let text = between(rt.alloc(), b"task t priority 1 { every 9 { ", form, b" } }")?;
+        let text = joined(
+            rt.alloc(),
+            &[b"task t priority 1 { every 9 { ", form, b" } }"],
+        )?;
         assert!(rt; text.len() <= 1_048_576);
         assert!(rt; fault(rt.alloc(), &text)? == unexpected(column));
     }

@@ -6,16 +6,16 @@ use tcel_tree::{
     Decl, DeclKind, Expr, ExprKind, Placed, Program, Stmt, StmtKind, Task, Window, copy,
 };
 
+fn name(bytes: &[u8]) -> Result<Name, NoMemory> {
+    Name::new(bytes).ok_or(NoMemory)
+}
+
 fn at(column: u32) -> At {
     At { line: 1, column }
 }
 
 fn placed(value: i64) -> Placed {
     Placed { value, at: at(7) }
-}
-
-fn name(bytes: &[u8]) -> Result<Name, NoMemory> {
-    Name::new(bytes).ok_or(NoMemory)
 }
 
 fn number(value: i64) -> Expr {
@@ -51,14 +51,15 @@ fn block(alloc: Global, what: StmtKind) -> Result<Items<Stmt>, NoMemory> {
 
 // for x < 3 { receive x from p; }
 fn counted(alloc: Global) -> Result<StmtKind, NoMemory> {
+    let (x, port) = (name(b"x")?, name(b"p")?);
     let received = StmtKind::Receive {
-        name: name(b"x")?,
+        name: x,
         name_at: at(8),
-        port: name(b"p")?,
+        port,
         port_at: at(9),
     };
     Ok(StmtKind::For {
-        name: name(b"x")?,
+        name: x,
         name_at: at(11),
         turns: placed(3),
         body: block(alloc, received)?,
@@ -72,10 +73,11 @@ fn timed(alloc: Global) -> Result<StmtKind, NoMemory> {
         port: name(b"p")?,
         port_at: at(10),
     };
+    let body = block(alloc, sent)?;
     let repeated = StmtKind::While {
         test: test(alloc)?,
         turns: placed(4),
-        body: block(alloc, sent)?,
+        body,
     };
     let window = Window {
         after: Some(placed(5)),

@@ -28,7 +28,6 @@ pub mod Timelines
 pub mod Written
 pub mod JudgeStages
 pub mod JudgeExamples
-pub mod FewOperators
 pub mod Checkable
 pub mod StateTexts
 pub mod MeanExamples

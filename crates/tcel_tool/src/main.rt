@@ -54,8 +54,6 @@ mod program;
 mod program_tests;
 mod report;
 mod run;
-#[cfg(test)]
-mod schedule_tests;
 mod script;
 mod span_line;
 mod spans;

@@ -25,6 +25,3 @@ pub use reader::read_trace;
 pub use state_text::StateText;
 pub use trace_fail::TraceFail;
 pub use trace_line::{LineWhat, TraceLine};
-
-#[cfg(test)]
-mod tests;

@@ -9,6 +9,3 @@ mod ready;
 pub use flaws::verify;
 pub use ready::Ready;
 pub use tcel_image::{Flaw, FlawKind};
-
-#[cfg(test)]
-mod tests;

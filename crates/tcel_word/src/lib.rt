@@ -6,6 +6,3 @@ mod operator;
 
 pub use array::{clear, copy, element, set_element};
 pub use operator::{binary, holds, unary};
-
-#[cfg(test)]
-mod tests;

@@ -1,6 +1,0 @@
-use Rattle.std.proofs.Common.{◌≡◌, replicate}
-use Rattle.tcel_busy.proofs.Rows.{plan_within}
-use Rattle.tcel_busy.proofs.tests.sixteen_plans.Given as goal
-
-abbrev pub invariant-loop : goal.invariant-loop
-invariant-loop l = l.plans.items ≡ replicate l.counter (plan_within 16 1 16)

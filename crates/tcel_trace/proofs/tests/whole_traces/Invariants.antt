@@ -1,5 +1,0 @@
-use Rattle.tcel_trace.specs.Room.{HasRoom}
-use Rattle.tcel_trace.proofs.tests.whole_traces.Given as goal
-
-abbrev pub invariant-loop : goal.invariant-loop
-invariant-loop g l = HasRoom l.buffer.room l.machine.image
