@@ -1,4 +1,4 @@
-//! Tests of the libraries and commands from outside. A crate's tests are proved along with the whole crate, so they stand together here.
+//! Tests of the libraries, from outside. A crate's tests are proved along with the whole crate, so they stand together here.
 #![tactic(auto)]
 
 #[cfg(test)]
